@@ -1,0 +1,110 @@
+-- Laws of what runs over an index. Assumes nothing.
+--     length-upto, coefficient of upto (getD-upto, getD-upto-out)
+--     sum-zero, sum-front, sum-same, sum-window     sums: of zeros; first term apart; term by term; of a window of terms
+--     first-is, first-only                          the search finds what First says, and First says it of one number only
+--     first-found, first-passed, first-ended        a searching loop's turn at i: it stops, it goes on, it is through
+use Prim.Native.Nat.{ℕ, zero, suc, _+_, _-_, _*_, _≤_, _<_, min, zero-le}
+use mathlib.Core.Path.{_≡_, refl, sym, ap, _∙_, fun-ext}
+use mathlib.Core.Bool.{Bool, true, false, true≢false}
+use mathlib.Core.Logic.{⊎-elim}
+use mathlib.Core.List.{List, [], _∷_, _++_}
+use native.Mathlib.Nat.{not-suc-le-zero, le-of-suc-le-suc, eq-or-lt-of-le, le-antisymm, mul-le-mul-right, suc-mul}
+use native.Mathlib.Decide.{decLt}
+use native.Mathlib.Numerals.{add-one}
+use native.Mathlib.Omega.{arith}
+use lib.ListN.{length, getD, length-append, List·getD-append, List·getD-eq-default}
+use lib.Seq.{getD-at}
+use Rattle.polynomials.specs.Indices.{pick, sumTo, upto, first, First}
+
+pub length-upto : (n : ℕ) (f : ℕ → ℕ) → length (upto n f) ≡ n
+length-upto zero f = refl
+length-upto (suc n) f = length-append (upto n f) (f n ∷ []) ∙ omega (arith, length-upto n f)
+
+pub getD-upto : (n : ℕ) (f : ℕ → ℕ) (i : ℕ) → i < n → getD (upto n f) i 0 ≡ f i
+getD-upto zero f i h = absurd (not-suc-le-zero h)
+getD-upto (suc n) f i h =
+    ⊎-elim
+    (λ e. let e2 : i ≡ n = omega arith in rw e2 (getD-at (upto n f) (f n) [] 0 n (length-upto n f)))
+    (λ l. let l2 : i < n = omega arith in List·getD-append (upto n f) (f n ∷ []) 0 i (rw length-upto l2) ∙ getD-upto n f i l2)
+    (eq-or-lt-of-le (le-of-suc-le-suc h))
+
+pub getD-upto-out : (n : ℕ) (f : ℕ → ℕ) (i : ℕ) → n ≤ i → getD (upto n f) i 0 ≡ 0
+getD-upto-out n f i h = List·getD-eq-default (upto n f) 0 {n = i} (rw length-upto h)
+
+-- ---- sums
+
+pub sum-zero : (n : ℕ) (f : ℕ → ℕ) → ((i : ℕ) → f i ≡ 0) → sumTo n f ≡ 0
+sum-zero zero f h = refl
+sum-zero (suc n) f h = omega (arith, sum-zero n f h, h n)
+
+pub sum-front : (n : ℕ) (f : ℕ → ℕ) → sumTo (suc n) f ≡ f 0 + sumTo n (λ i. f (suc i))
+sum-front zero f = omega arith
+sum-front (suc n) f = omega (arith, sum-front n f)
+
+pub sum-same : (n : ℕ) (f g : ℕ → ℕ) → ((i : ℕ) → f i ≡ g i) → sumTo n f ≡ sumTo n g
+sum-same n f g h = ap (λ (k : ℕ → ℕ). sumTo n k) (fun-ext h)
+
+-- terms of at most c, and none below lo or from hi on
+pub sum-window : (lo hi c : ℕ) (f : ℕ → ℕ) → ((i : ℕ) → f i ≤ c) → ((i : ℕ) → i < lo → f i ≡ 0) → ((i : ℕ) → hi ≤ i → f i ≡ 0)
+    → (n : ℕ) → sumTo n f ≤ (min n hi - lo) * c
+sum-window lo hi c f most low high zero = zero-le
+sum-window lo hi c f most low high (suc n) = go (sum-window lo hi c f most low high n) (decLt n lo) (decLt n hi)
+  where
+    same : sumTo n f ≤ (min n hi - lo) * c → f n ≡ 0 → sumTo n f + f n ≤ (min (suc n) hi - lo) * c
+    same ih e = omega (arith, mul-le-mul-right {m = min n hi - lo} {n = min (suc n) hi - lo} c (omega arith))
+
+    go : sumTo n f ≤ (min n hi - lo) * c → Dec (n < lo) → Dec (n < hi) → sumTo n f + f n ≤ (min (suc n) hi - lo) * c
+    go ih (yes h) d = same ih (low n h)
+    go ih (no h) (no g) = same ih (high n (omega arith))
+    go ih (no h) (yes g) =
+        let e : min (suc n) hi - lo ≡ suc (min n hi - lo) = omega arith in
+        rw (e, suc-mul) (omega (arith, most n))
+
+-- ---- searches
+
+pub first-found : (test : ℕ → Bool) (e i : ℕ) → i < e → test i ≡ true → first test (e - i) i ≡ i
+unfolding first
+first-found test e i h t =
+    let s : e - i ≡ suc (e - i - 1) = omega arith in
+    rw (s, t)
+
+pub first-passed : (test : ℕ → Bool) (e i : ℕ) → i < e → test i ≡ false → first test (e - i) i ≡ first test (e - (i + 1)) (i + 1)
+unfolding first
+first-passed test e i h t =
+    let s : e - i ≡ suc (e - (i + 1)) = omega arith in
+    rw (s, t, add-one)
+
+pub first-ended : (test : ℕ → Bool) (e i : ℕ) → e ≤ i → first test (e - i) i ≡ i
+unfolding first
+first-ended test e i h =
+    let s : e - i ≡ 0 = omega arith in
+    rw s
+
+pub first-is : (test : ℕ → Bool) (n i : ℕ) → First test n i (first test n i)
+unfolding first
+first-is test zero i = record { low = omega arith; high = omega arith; none-before = λ j a b. absurd (omega arith); holds = λ a. absurd (omega arith) }
+first-is test (suc n) i = go (test i) refl (first-is test n (suc i))
+  where
+    go : (b : Bool) → test i ≡ b → First test n (suc i) (first test n (suc i)) → First test (suc n) i (pick (test i) i (first test n (suc i)))
+    go true t r = rw t (record { low = omega arith; high = omega arith; none-before = λ j a b. absurd (omega arith); holds = λ a. t })
+    go false t r =
+        rw t
+        (record {
+          low = omega (arith, r .low);
+          high = omega (arith, r .high);
+          none-before = λ j a b. ⊎-elim (λ e. let e2 : j ≡ i = omega arith in rw e2 t) (λ l. r .none-before j l b) (eq-or-lt-of-le a);
+          holds = λ a. r .holds (omega arith);
+        })
+
+no-earlier : (test : ℕ → Bool) (n i r s : ℕ) → First test n i r → First test n i s → r < s → ⊥
+no-earlier test n i r s a b h =
+    let yes-at : test r ≡ true = a .holds (omega (arith, b .high)) in
+    true≢false (sym yes-at ∙ b .none-before r (a .low) h)
+
+pub first-only : (test : ℕ → Bool) (n i r s : ℕ) → First test n i r → First test n i s → r ≡ s
+first-only test n i r s a b = go (decLt r s) (decLt s r)
+  where
+    go : Dec (r < s) → Dec (s < r) → r ≡ s
+    go (yes h) d = absurd (no-earlier test n i r s a b h)
+    go (no h) (yes g) = absurd (no-earlier test n i s r b a g)
+    go (no h) (no g) = omega arith

@@ -1,0 +1,32 @@
+-- What runs over an index. Definitions only.
+--     pick b x y        x if b is true, y if it is false
+--     sumTo n f         f 0 + .. + f (n - 1)
+--     upto n f          the list f 0, .., f (n - 1)
+--     first test n i    the first of the n numbers i, i + 1, .. at which the test holds, and i + n where it holds at none
+--     First             that a number is that one, without saying how it is found
+use Prim.Native.Nat.{ℕ, zero, suc, _+_, _≤_, _<_}
+use mathlib.Core.Path.{_≡_}
+use mathlib.Core.Bool.{Bool, true, false}
+use mathlib.Core.List.{List, [], _∷_, _++_}
+
+abbrev pub pick : {A : Type 0} → Bool → A → A → A
+pick true x y = x
+pick false x y = y
+
+abbrev pub sumTo : ℕ → (ℕ → ℕ) → ℕ
+sumTo zero f = 0
+sumTo (suc n) f = sumTo n f + f n
+
+abbrev pub upto : ℕ → (ℕ → ℕ) → List ℕ
+upto zero f = []
+upto (suc n) f = upto n f ++ (f n ∷ [])
+
+unfoldable pub first : (ℕ → Bool) → ℕ → ℕ → ℕ
+first test zero i = i
+first test (suc n) i = pick (test i) i (first test n (suc i))
+
+pub record First (test : ℕ → Bool) (n i r : ℕ) : Type 0 where
+  pub low : i ≤ r
+  pub high : r ≤ i + n
+  pub none-before : (j : ℕ) → i ≤ j → j < r → test j ≡ false
+  pub holds : r < i + n → test r ≡ true

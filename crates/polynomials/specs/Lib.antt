@@ -1,0 +1,9 @@
+-- Lists of whole numbers as polynomials. Definitions first, then the laws that speak of them; each file opens with its notions.
+pub mod Indices
+pub mod Lists
+pub mod Places
+pub mod IndexLaws
+pub mod ListLaws
+pub mod BoundLaws
+pub mod PlaceLaws
+pub mod ReductionLaws

@@ -1,0 +1,93 @@
+-- Laws of lists as polynomials. Assumes nothing.
+--     lists-agree                          two lists are equal if they have one length and all coefficients agree
+--     length-LIST, coefficient-LIST        of a sum, a scaled list, a product, residues, each under that name
+--     product-row                          the first factor's lowest coefficient apart
+use Prim.Native.Nat.{ℕ, zero, suc, _+_, _-_, _*_, _%_, _≤_, _<_, max}
+use mathlib.Core.Path.{_≡_, refl, sym, ap, _∙_}
+use mathlib.Core.List.{List, [], _∷_}
+use native.Mathlib.Nat.{zero-add, add-zero, zero-mul, mul-zero, zero-mod, sub-zero, suc-sub-suc}
+use native.Mathlib.Decide.{decLt}
+use native.Mathlib.Omega.{arith}
+use lib.ListN.{length, getD, List·getD-eq-default}
+use lib.Seq.{ext-getD}
+use Rattle.polynomials.specs.Indices.{sumTo, upto}
+use Rattle.polynomials.specs.Lists.{coefficient, sum, scaled, productLength, productAt, product, residues}
+use Rattle.polynomials.specs.IndexLaws.{length-upto, getD-upto, getD-upto-out, sum-zero, sum-front, sum-same}
+
+pub lists-agree : (xs ys : List ℕ) → length xs ≡ length ys → ((j : ℕ) → j < length xs → coefficient xs j ≡ coefficient ys j) → xs ≡ ys
+lists-agree xs ys e h = ext-getD 0 xs ys e h
+
+pub coefficient-past : (xs : List ℕ) (j : ℕ) → length xs ≤ j → coefficient xs j ≡ 0
+coefficient-past xs j h = List·getD-eq-default xs 0 h
+
+-- ---- sums
+
+pub length-sum : (xs ys : List ℕ) → length (sum xs ys) ≡ max (length xs) (length ys)
+length-sum [] ys = omega arith
+length-sum (x ∷ xs) [] = omega arith
+length-sum (x ∷ xs) (y ∷ ys) = omega (arith, length-sum xs ys)
+
+pub coefficient-sum : (xs ys : List ℕ) (j : ℕ) → coefficient (sum xs ys) j ≡ coefficient xs j + coefficient ys j
+coefficient-sum [] ys j = sym (zero-add (coefficient ys j))
+coefficient-sum (x ∷ xs) [] j = sym (add-zero (coefficient (x ∷ xs) j))
+coefficient-sum (x ∷ xs) (y ∷ ys) zero = refl
+coefficient-sum (x ∷ xs) (y ∷ ys) (suc j) = coefficient-sum xs ys j
+
+pub length-scaled : (c : ℕ) (xs : List ℕ) → length (scaled c xs) ≡ length xs
+length-scaled c [] = refl
+length-scaled c (x ∷ xs) = ap suc (length-scaled c xs)
+
+pub coefficient-scaled : (c : ℕ) (xs : List ℕ) (j : ℕ) → coefficient (scaled c xs) j ≡ c * coefficient xs j
+coefficient-scaled c [] j = sym (mul-zero c)
+coefficient-scaled c (x ∷ xs) zero = refl
+coefficient-scaled c (x ∷ xs) (suc j) = coefficient-scaled c xs j
+
+-- ---- residues
+
+pub length-residues : (p : ℕ) (xs : List ℕ) → length (residues p xs) ≡ length xs
+length-residues p [] = refl
+length-residues p (x ∷ xs) = ap suc (length-residues p xs)
+
+pub coefficient-residues : (p : ℕ) (xs : List ℕ) (j : ℕ) → coefficient (residues p xs) j ≡ coefficient xs j % p
+coefficient-residues p [] j = sym (zero-mod p)
+coefficient-residues p (x ∷ xs) zero = refl
+coefficient-residues p (x ∷ xs) (suc j) = coefficient-residues p xs j
+
+-- ---- products
+
+pub length-product : (xs ys : List ℕ) → length (product xs ys) ≡ productLength (length xs) (length ys)
+length-product xs ys = length-upto (productLength (length xs) (length ys)) (productAt xs ys)
+
+-- a schoolbook sum in which every term has a factor past its list's end
+productAt-past : (xs ys : List ℕ) (j : ℕ) → ((i : ℕ) → i < length xs → length ys ≤ j - i) → productAt xs ys j ≡ 0
+productAt-past xs ys j h = sum-zero (suc j) (λ i. coefficient xs i * coefficient ys (j - i)) (λ i. term i (decLt i (length xs)))
+  where
+    term : (i : ℕ) → Dec (i < length xs) → coefficient xs i * coefficient ys (j - i) ≡ 0
+    term i (yes l) = rw (coefficient-past ys (j - i) (h i l), mul-zero)
+    term i (no l) = rw (coefficient-past xs i (omega arith), zero-mul)
+
+pub coefficient-product : (xs ys : List ℕ) (j : ℕ) → coefficient (product xs ys) j ≡ productAt xs ys j
+coefficient-product xs ys j = go (decLt j (productLength (length xs) (length ys)))
+  where
+    far : (xs ys : List ℕ) → productLength (length xs) (length ys) ≤ j → (i : ℕ) → i < length xs → length ys ≤ j - i
+    far [] ys h i l = absurd (omega arith)
+    far (x ∷ xs) [] h i l = omega arith
+    far (x ∷ xs) (y ∷ ys) h i l = omega arith
+
+    go : Dec (j < productLength (length xs) (length ys)) → coefficient (product xs ys) j ≡ productAt xs ys j
+    go (yes h) = getD-upto (productLength (length xs) (length ys)) (productAt xs ys) j h
+    go (no h) =
+        let h2 : productLength (length xs) (length ys) ≤ j = omega arith in
+        getD-upto-out (productLength (length xs) (length ys)) (productAt xs ys) j h2 ∙ sym (productAt-past xs ys j (far xs ys h2))
+
+-- x + x^1 (the rest), times ys: x ys, and the rest's product one place up
+pub product-row : (x : ℕ) (xs ys : List ℕ) (j : ℕ) → coefficient (product (x ∷ xs) ys) j ≡ coefficient (sum (scaled x ys) (0 ∷ product xs ys)) j
+product-row x xs ys zero =
+    coefficient-product (x ∷ xs) ys zero ∙ sym (coefficient-sum (scaled x ys) (0 ∷ product xs ys) zero ∙ omega (arith, coefficient-scaled x ys zero))
+product-row x xs ys (suc j) =
+    coefficient-product (x ∷ xs) ys (suc j)
+    ∙ sym (
+    coefficient-sum (scaled x ys) (0 ∷ product xs ys) (suc j)
+    ∙ rw (coefficient-scaled x ys (suc j), coefficient-product xs ys j, sum-front (suc j) (λ i. coefficient (x ∷ xs) i * coefficient ys (suc j - i)), sub-zero)
+    (ap (λ (n : ℕ). x * coefficient ys (suc j) + n) (sum-same (suc j) (λ i. coefficient xs i * coefficient ys (j - i)) (λ i. coefficient xs i * coefficient ys (suc j - suc i)) (λ i. rw suc-sub-suc)))
+    )

@@ -1,0 +1,88 @@
+-- Laws of places in a base q, any base. Assumes nothing; bounds are asked of the fields and of the number.
+--     packed-agree                 lists whose coefficients agree pack to one number
+--     packed-sum, packed-scaled, packed-product, packed-sumOfProducts
+--                                  the packed number of a sum, .. is the sum, .. of the packed numbers
+--     packed-snoc                  the highest place apart
+--     field-packed, fields-packed  the fields of a packed list give it back
+--     packed-fields                packing the fields of a number gives it back
+--     packed-top                   lower fields below q and the top one at most c: a number below (c + 1) q^m
+use Prim.Native.Nat.{ℕ, zero, suc, _+_, _-_, _*_, _/_, _%_, _^_, _≤_, _<_}
+use mathlib.Core.Path.{_≡_, refl, sym, ap, _∙_}
+use mathlib.Core.List.{List, [], _∷_, _++_}
+use native.Mathlib.Nat.{zero-add, add-zero, zero-mul, mul-zero, one-mul, mul-one, mul-comm, mul-assoc, mul-le-mul-left, mul-pos, pow-zero, pow-suc, pow-succ', zero-mod, zero-div, mod-one, div-one, mod-eq-of-lt, div-eq-of-lt, add-mul-div-left, add-mul-mod-self-left, div-div-eq-div-mul, one-le-pow}
+use native.Mathlib.Omega.{arith}
+use lib.Arith.{mod-mul}
+use lib.ListN.{length}
+use Rattle.polynomials.specs.Indices.{upto}
+use Rattle.polynomials.specs.Lists.{coefficient, sum, scaled, product, Below, Pair, sumOfProducts}
+use Rattle.polynomials.specs.Places.{packed, field, fields, sumOfWords}
+use Rattle.polynomials.specs.IndexLaws.{length-upto, getD-upto}
+use Rattle.polynomials.specs.ListLaws.{lists-agree, product-row}
+
+pub packed-agree : (q : ℕ) (xs ys : List ℕ) → ((j : ℕ) → coefficient xs j ≡ coefficient ys j) → packed q xs ≡ packed q ys
+packed-agree q [] [] h = refl
+packed-agree q [] (y ∷ ys) h = rw (← h 0, ← packed-agree q [] ys (λ j. h (suc j)), mul-zero)
+packed-agree q (x ∷ xs) [] h = rw (h 0, packed-agree q xs [] (λ j. h (suc j)), mul-zero)
+packed-agree q (x ∷ xs) (y ∷ ys) h = rw (h 0, packed-agree q xs ys (λ j. h (suc j)))
+
+pub packed-sum : (q : ℕ) (xs ys : List ℕ) → packed q (sum xs ys) ≡ packed q xs + packed q ys
+packed-sum q [] ys = sym (zero-add (packed q ys))
+packed-sum q (x ∷ xs) [] = omega arith
+packed-sum q (x ∷ xs) (y ∷ ys) = rw (packed-sum q xs ys) (omega arith)
+
+pub packed-scaled : (q c : ℕ) (xs : List ℕ) → packed q (scaled c xs) ≡ c * packed q xs
+packed-scaled q c [] = sym (mul-zero c)
+packed-scaled q c (x ∷ xs) = rw (packed-scaled q c xs) (omega arith)
+
+pub packed-product : (q : ℕ) (xs ys : List ℕ) → packed q (product xs ys) ≡ packed q xs * packed q ys
+packed-product q [] ys = sym (zero-mul (packed q ys))
+packed-product q (x ∷ xs) ys =
+    packed-agree q (product (x ∷ xs) ys) (sum (scaled x ys) (0 ∷ product xs ys)) (product-row x xs ys)
+    ∙ packed-sum q (scaled x ys) (0 ∷ product xs ys)
+    ∙ rw (packed-scaled q x ys, packed-product q xs ys) (omega arith)
+
+pub packed-sumOfProducts : (q : ℕ) (cs : List Pair) → packed q (sumOfProducts cs) ≡ sumOfWords q cs
+packed-sumOfProducts q [] = refl
+packed-sumOfProducts q (c ∷ cs) =
+    packed-sum q (product (c .left) (c .right)) (sumOfProducts cs) ∙ rw (packed-product q (c .left) (c .right), packed-sumOfProducts q cs)
+
+pub packed-snoc : (q : ℕ) (xs : List ℕ) (x : ℕ) → packed q (xs ++ (x ∷ [])) ≡ packed q xs + x * q ^ length xs
+packed-snoc q [] x = rw (pow-zero, mul-zero, mul-one) (omega arith)
+packed-snoc q (y ∷ xs) x = rw (packed-snoc q xs x, pow-succ') (omega arith)
+
+-- ---- fields
+
+pub field-packed : (q : ℕ) (xs : List ℕ) → Below q xs → (i : ℕ) → field q (packed q xs) i ≡ coefficient xs i
+field-packed q [] h i = rw (zero-div, zero-mod)
+field-packed q (x ∷ xs) h zero = rw (pow-zero, div-one, add-mul-mod-self-left x q (packed q xs), mod-eq-of-lt (h 0))
+field-packed q (x ∷ xs) h (suc i) =
+    let hx : x < q = h 0 in
+    let up : (x + q * packed q xs) / q ≡ packed q xs = add-mul-div-left x (packed q xs) (omega arith) ∙ rw (div-eq-of-lt hx) (zero-add (packed q xs)) in
+    rw (pow-succ', ← div-div-eq-div-mul, up) (field-packed q xs (λ j. h (suc j)) i)
+
+pub fields-packed : (q : ℕ) (xs : List ℕ) → Below q xs → fields q (length xs) (packed q xs) ≡ xs
+fields-packed q xs h =
+    lists-agree (fields q (length xs) (packed q xs)) xs (length-upto (length xs) (field q (packed q xs)))
+    (λ j l. getD-upto (length xs) (field q (packed q xs)) j (rw length-upto at l) ∙ field-packed q xs h j)
+
+packed-fields-mod : (q : ℕ) → 0 < q → (m r : ℕ) → packed q (fields q m r) ≡ r % q ^ m
+packed-fields-mod q hq zero r = rw (pow-zero, mod-one)
+packed-fields-mod q hq (suc m) r =
+    packed-snoc q (upto m (field q r)) (field q r m)
+    ∙ rw (length-upto, packed-fields-mod q hq m r, pow-succ', mod-mul r hq (one-le-pow m q hq)) (omega arith)
+
+pub packed-fields : (q : ℕ) → 0 < q → (m r : ℕ) → r < q ^ m → packed q (fields q m r) ≡ r
+packed-fields q hq m r h = packed-fields-mod q hq m r ∙ mod-eq-of-lt h
+
+-- ---- bounds
+
+pub packed-top : (q c m : ℕ) (xs : List ℕ) → ((j : ℕ) → j < m → coefficient xs j < q) → coefficient xs m ≤ c → ((j : ℕ) → m < j → coefficient xs j ≡ 0)
+    → packed q xs < (c + 1) * q ^ m
+packed-top q c zero [] low top past = rw (pow-zero, mul-one) (omega arith)
+packed-top q c zero (x ∷ xs) low top past =
+    let none : packed q xs ≡ 0 = packed-agree q xs [] (λ j. past (suc j) (omega arith)) in
+    rw (pow-zero, mul-one, none, mul-zero) (omega arith)
+packed-top q c (suc m) [] low top past = mul-pos (omega arith) (one-le-pow (suc m) q (low 0 (omega arith)))
+packed-top q c (suc m) (x ∷ xs) low top past =
+    let rest : packed q xs < (c + 1) * q ^ m = packed-top q c m xs (λ j h. low (suc j) (omega arith)) top (λ j h. past (suc j) (omega arith)) in
+    rw pow-succ' (omega (arith, mul-le-mul-left q rest, low 0 (omega arith)))

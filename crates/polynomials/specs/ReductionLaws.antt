@@ -1,0 +1,39 @@
+-- Residues of fields, and document 003's identity. Assumes nothing.
+--     minus-below, minus-is     minus p u w is below p, and adding w to it gives u modulo p: no other number does both
+--     reduced-shifted           m_i = (u_i - q u_(i + 1)) mod p
+--     reduced-last              the last m is the last u
+use Prim.Native.Nat.{ℕ, zero, suc, _+_, _-_, _*_, _/_, _%_, _^_, _≤_, _<_}
+use mathlib.Core.Path.{_≡_, refl, sym, ap, _∙_}
+use native.Mathlib.Nat.{mod-lt, mod-add-mod, mod-add-div, div-add-mod', add-mul-mod-self-right, suc-mul, pow-suc, pow-succ', div-div-eq-div-mul, div-lt-iff-lt-mul, mod-eq-of-lt, one-le-pow}
+use native.Mathlib.Omega.{arith}
+use Rattle.polynomials.specs.Places.{field, shifted, reduced, minus}
+
+pub mul-mod : (a b p : ℕ) → a * (b % p) % p ≡ a * b % p
+mul-mod a b p =
+    sym (add-mul-mod-self-right (a * (b % p)) (a * (b / p)) p)
+    ∙ ap (λ (n : ℕ). n % p) (omega (arith, ap (λ (n : ℕ). a * n) (div-add-mod' b p)))
+
+pub minus-below : (p u w : ℕ) → 0 < p → minus p u w < p
+minus-below p u w h = mod-lt (u + (p - w % p)) h
+
+there-and-back : (p w x : ℕ) → 0 < p → (x + (p - w % p) + w) % p ≡ x % p
+there-and-back p w x h =
+    ap (λ (n : ℕ). n % p) (omega (arith, div-add-mod' w p, mod-lt w h, suc-mul (w / p) p)) ∙ add-mul-mod-self-right x (suc (w / p)) p
+
+pub minus-is : (p u w : ℕ) → 0 < p → (minus p u w + w) % p ≡ u % p
+minus-is p u w h = mod-add-mod (u + (p - w % p)) p w ∙ there-and-back p w u h
+
+-- w taken from f + w, both known modulo p only
+minus-sum : (p f w : ℕ) → 0 < p → minus p ((f + w) % p) w ≡ f % p
+minus-sum p f w h = mod-add-mod (f + w) p (p - w % p) ∙ ap (λ (n : ℕ). n % p) (omega arith) ∙ there-and-back p w f h
+
+pub reduced-shifted : (p q r i : ℕ) → 0 < p → reduced p q r i ≡ minus p (shifted p q r i) (q * shifted p q r (suc i))
+reduced-shifted p q r i h =
+    sym (
+    rw (mul-mod q (r / q ^ suc i) p)
+    (rw (pow-suc, ← div-div-eq-div-mul)
+    (ap (λ (n : ℕ). minus p (n % p) (q * (r / q ^ i / q))) (sym (mod-add-div (r / q ^ i) q)) ∙ minus-sum p (r / q ^ i % q) (q * (r / q ^ i / q)) h))
+    )
+
+pub reduced-last : (p q r i : ℕ) → 0 < q → r < q ^ suc i → reduced p q r i ≡ shifted p q r i
+reduced-last p q r i hq h = ap (λ (n : ℕ). n % p) (mod-eq-of-lt (div-lt-iff-lt-mul (one-le-pow i q hq) .1 (rw pow-succ' at h)))
