@@ -6,13 +6,15 @@
 --     field-packed, fields-packed  the fields of a packed list give it back
 --     packed-fields                packing the fields of a number gives it back
 --     packed-top                   lower fields below q and the top one at most c: a number below (c + 1) q^m
+--     power-power                  place i of the base b^t starts at b^(i t)
 use Prim.Native.Nat.{ℕ, zero, suc, _+_, _-_, _*_, _/_, _%_, _^_, _≤_, _<_}
 use mathlib.Core.Path.{_≡_, refl, sym, ap, _∙_}
 use mathlib.Core.List.{List, [], _∷_, _++_}
-use native.Mathlib.Nat.{zero-add, add-zero, zero-mul, mul-zero, one-mul, mul-one, mul-comm, mul-assoc, mul-le-mul-left, mul-pos, pow-zero, pow-suc, pow-succ', zero-mod, zero-div, mod-one, div-one, mod-eq-of-lt, div-eq-of-lt, add-mul-div-left, add-mul-mod-self-left, div-div-eq-div-mul, one-le-pow}
+use native.Mathlib.Nat.{zero-add, add-zero, zero-mul, mul-zero, one-mul, mul-one, mul-comm, mul-assoc, mul-le-mul-left, mul-pos, suc-mul, pow-zero, pow-suc, pow-succ', zero-mod, zero-div, mod-one, div-one, mod-eq-of-lt, div-eq-of-lt, add-mul-div-left, add-mul-mod-self-left, div-div-eq-div-mul, one-le-pow}
 use native.Mathlib.Omega.{arith}
 use lib.Arith.{mod-mul}
 use lib.ListN.{length}
+use lib.Pow.{pow-add}
 use Rattle.polynomials.specs.Indices.{upto}
 use Rattle.polynomials.specs.Lists.{coefficient, sum, scaled, product, Below, Pair, sumOfProducts}
 use Rattle.polynomials.specs.Places.{packed, field, fields, sumOfWords}
@@ -86,3 +88,7 @@ packed-top q c (suc m) [] low top past = mul-pos (omega arith) (one-le-pow (suc 
 packed-top q c (suc m) (x ∷ xs) low top past =
     let rest : packed q xs < (c + 1) * q ^ m = packed-top q c m xs (λ j h. low (suc j) (omega arith)) top (λ j h. past (suc j) (omega arith)) in
     rw pow-succ' (omega (arith, mul-le-mul-left q rest, low 0 (omega arith)))
+
+pub power-power : (b t i : ℕ) → (b ^ t) ^ i ≡ b ^ (i * t)
+power-power b t zero = rw (pow-zero, zero-mul, pow-zero)
+power-power b t (suc i) = rw (pow-succ', suc-mul, pow-add, power-power b t i) (mul-comm (b ^ t) (b ^ (i * t)))

@@ -1,0 +1,26 @@
+-- `width_escapes` meets its contract. Assumes nothing.
+use mathlib.Core.Path.{_≡_}
+use mathlib.Core.Bool.{true, false}
+use borrow.Author.Needs.{needs}
+use Rattle.packed.specs.Settings.{narrowCause}
+use Rattle.packed.specs.Choices.{escapes}
+use Rattle.packed.proofs.setting.width_escapes.Statement.{statement}
+use Rattle.packed.proofs.setting.width_escapes.Tie as tie
+
+narrow-cause-requires : tie.Need-narrow-cause-requires
+narrow-cause-requires c κs = search needs
+
+returns : tie.Need-returns
+unfolding escapes
+returns c = let h : narrowCause (c .before .before .args .s) ≡ true = cc in rw h
+
+room-cause-requires : tie.Need-room-cause-requires
+room-cause-requires c κs = search needs
+
+returns-2 : tie.Need-returns-2
+unfolding escapes
+returns-2 c = let h : narrowCause (c .before .before .before .args .s) ≡ false = cc in rw (h, c .room-cause .ensures)
+
+pub width-escapes-spec : {M : Type 1} → statement M
+width-escapes-spec =
+    tie.close (tie.spec narrow-cause-requires returns room-cause-requires returns-2)

@@ -1,0 +1,21 @@
+use lib.Dec.{lit<}
+use lib.Pow.{shl-exact}
+use mathlib.Core.Path.{_∙_}
+use native.Mathlib.Nat.{one-mul}
+use native.Mathlib.Omega.{arith}
+use borrow.Author.Needs.{needs}
+use Rattle.packed.proofs.words.power.Statement.{statement}
+use Rattle.packed.proofs.words.power.Tie as tie
+use Rattle.packed.proofs.words.power.Reads as reads
+use Rattle.packed.proofs.words.power.Lts as lts
+
+-- src/words.rt:10:5
+shl-result : tie.Need-shl-result
+shl-result c = search needs
+
+-- src/words.rt:6:1
+returns : tie.Need-returns
+returns c = shl-exact 1 (c .args .t) 64 (lit< tt) (omega arith) ∙ one-mul _
+
+pub power-spec : {M : Type 1} → statement M
+power-spec = tie.close (tie.spec shl-result returns)

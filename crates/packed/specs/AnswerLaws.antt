@@ -1,0 +1,33 @@
+-- Checks in order: what an answer tells of them. Assumes nothing.
+--     passed, passed-last     a value was answered, so this cause did not hold
+--     passed-over             another number was given, so this cause did not hold
+--     refusal-same            a refusal is its number and its place
+use Prim.Native.Nat.{ℕ}
+use mathlib.Core.Path.{_≡_, refl, sym, ap, _∙_}
+use mathlib.Core.Bool.{Bool, true, false}
+use native.Mathlib.Omega.{arith}
+use Rattle.packed.specs.Answers.{Answer, answered, refused, Verdict, fine, refuse, _andThen_}
+use Rattle.packed.specs.declared.refusals.Refusal.{Refusal}
+
+pub never : {A : Type 0} (number place : ℕ) (v : A) → refused number place ≡ answered v → ⊥
+never number place v e = let z : _≡_ {A = ℕ} 0 1 = cc in omega arith
+
+pub passed : {A : Type 0} (cause : Bool) (number place : ℕ) (a : Answer A) (v : A) → (refuse cause number place andThen a) ≡ answered v
+    → (cause ≡ false) × (a ≡ answered v)
+passed true number place a v e = absurd (never number place v e)
+passed false number place a v e = (refl, e)
+
+pub passed-last : (cause : Bool) (number place : ℕ) → refuse cause number place ≡ fine → cause ≡ false
+passed-last true number place e = absurd (never number place tt e)
+passed-last false number place e = refl
+
+pub passed-over : {A : Type 0} (cause : Bool) (number place : ℕ) (a : Answer A) (n i : ℕ) → (number ≡ n → ⊥) → (refuse cause number place andThen a) ≡ refused n i
+    → (cause ≡ false) × (a ≡ refused n i)
+passed-over true number place a n i other e = absurd (other (cc))
+passed-over false number place a n i other e = (refl, e)
+
+pub refusal-same : {A : Type 0} (r x : Refusal) → _≡_ {A = Answer A} (refused (r .number) (r .place)) (refused (x .number) (x .place)) → r ≡ x
+refusal-same r x e =
+    let number : r .number ≡ x .number = cc in
+    let place : r .place ≡ x .place = cc in
+    λ i. record { number = number i; place = place i }

@@ -1,0 +1,10 @@
+-- Document 01, in its order and words; then the laws. Each file opens with its notions.
+pub mod Answers
+pub mod Limits
+pub mod Settings
+pub mod Choices
+pub mod AnswerLaws
+pub mod SettingLaws
+pub mod Bounds
+pub mod ChoiceLaws
+pub mod Examples

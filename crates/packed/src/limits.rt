@@ -1,0 +1,10 @@
+// The limits of document 01. Each stands here once.
+pub const LARGEST_MODULUS: u64 = 65536;
+
+pub const MOST_COEFFICIENTS: u64 = 8;
+
+pub const LARGEST_BATCH: u64 = 1048576;
+
+pub const WIDEST: u64 = 63;
+
+pub const WORD_BITS: u64 = 64;

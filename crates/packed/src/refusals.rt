@@ -1,0 +1,40 @@
+// Document 01's refusals under their names, each with its number. A cause that has no index of its own has the place 0.
+pub struct Refusal {
+    pub number: u64,
+    pub place: u64,
+}
+
+pub const MODULUS: Refusal = Refusal {
+    number: 1,
+    place: 0,
+};
+
+pub const LENGTH: Refusal = Refusal {
+    number: 2,
+    place: 0,
+};
+
+pub const BATCH: Refusal = Refusal {
+    number: 3,
+    place: 0,
+};
+
+pub const WIDTH: Refusal = Refusal {
+    number: 4,
+    place: 0,
+};
+
+pub const NARROW: Refusal = Refusal {
+    number: 5,
+    place: 0,
+};
+
+pub const ROOM: Refusal = Refusal {
+    number: 6,
+    place: 0,
+};
+
+pub const NONE: Refusal = Refusal {
+    number: 7,
+    place: 0,
+};
