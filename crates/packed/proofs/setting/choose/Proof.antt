@@ -1,75 +1,58 @@
--- `choose` meets its promise, as `check` does. Assumes nothing.
-use mathlib.Core.Path.{_≡_, sym, ap, _∙_}
-use mathlib.Core.Bool.{true, false}
-use lib.Dec.{ltb}
+-- `choose` meets its promise: at each return the causes before it are known to be false, and its own to be true. Assumes nothing.
+use mathlib.Core.Path.{_≡_, sym, _∙_}
+use mathlib.Core.Bool.{false}
 use borrow.Author.Needs.{needs}
 use borrow.Author.Tests.{lt-ltb, le-ltb}
 use Rattle.packed.specs.Settings.{modulusCause, lengthCause, batchCause}
 use Rattle.packed.specs.SettingLaws.{in-choice}
-use Rattle.packed.specs.Choices.{noneCause, smallestWidth, chooseAnswer}
+use Rattle.packed.specs.Choices.{noneCause, chooseAnswer}
 use Rattle.packed.proofs.setting.choose.Statement.{statement}
 use Rattle.packed.proofs.setting.choose.Tie as tie
+
+-- ---- what is known past each test
+
+modulus-passed : (c : tie.Else1) → modulusCause (c .before .before .args .p) ≡ false
+modulus-passed c = sym (c .before .modulus-cause .ensures) ∙ c .if1 .left
+
+coefficients-passed : (c : tie.Else2) → lengthCause (c .before .before .before .before .args .k) ≡ false
+coefficients-passed c = sym (c .before .length-cause .ensures) ∙ c .if2 .left
+
+batch-passed : (c : tie.Else3) → batchCause (c .before .before .before .before .before .before .args .n) ≡ false
+batch-passed c = sym (c .before .batch-cause .ensures) ∙ c .if3 .left
+
+-- ---- the needs
 
 modulus-cause-requires : tie.Need-modulus-cause-requires
 modulus-cause-requires c κs = search needs
 
 returns : tie.Need-returns
 unfolding chooseAnswer
-returns c =
-    let a = c .before .before .args in
-    let m : modulusCause (a .p) ≡ true = cc in
-    rw (m)
+returns c = rw (sym (c .before .modulus-cause .ensures) ∙ c .if1 .taken)
 
 length-cause-requires : tie.Need-length-cause-requires
 length-cause-requires c κs = search needs
 
 returns-2 : tie.Need-returns-2
 unfolding chooseAnswer
-returns-2 c =
-    let a = c .before .before .before .before .args in
-    let m : modulusCause (a .p) ≡ false = cc in
-    let k : lengthCause (a .k) ≡ true = cc in
-    rw (m, k)
+returns-2 c = rw (modulus-passed (c .before .before), sym (c .before .length-cause .ensures) ∙ c .if2 .taken)
 
 batch-cause-requires : tie.Need-batch-cause-requires
 batch-cause-requires c κs = search needs
 
 returns-3 : tie.Need-returns-3
 unfolding chooseAnswer
-returns-3 c =
-    let a = c .before .before .before .before .before .before .args in
-    let m : modulusCause (a .p) ≡ false = cc in
-    let k : lengthCause (a .k) ≡ false = cc in
-    let n : batchCause (a .n) ≡ true = cc in
-    rw (m, k, n)
+returns-3 c = rw (modulus-passed (c .before .before .before .before), coefficients-passed (c .before .before), sym (c .before .batch-cause .ensures) ∙ c .if3 .taken)
 
 smallest-width-requires : tie.Need-smallest-width-requires
-smallest-width-requires c κs =
-    let a = c .before .before .before .before .before .before .args in
-    let m : modulusCause (a .p) ≡ false = cc in
-    let k : lengthCause (a .k) ≡ false = cc in
-    let n : batchCause (a .n) ≡ false = cc in
-    in-choice (a .p) (a .k) (a .n) m k n
+smallest-width-requires c κs = in-choice _ _ _ (modulus-passed (c .before .before .before .before)) (coefficients-passed (c .before .before)) (batch-passed c)
 
 returns-4 : tie.Need-returns-4
 unfolding chooseAnswer noneCause
-returns-4 c =
-    let a = c .before .before .before .before .before .before .before .before .args in
-    let m : modulusCause (a .p) ≡ false = cc in
-    let k : lengthCause (a .k) ≡ false = cc in
-    let n : batchCause (a .n) ≡ false = cc in
-    let none : ltb 63 (smallestWidth (a .p) (a .k) (a .n)) ≡ true = ap (ltb 63) (sym (c .before .smallest-width .ensures)) ∙ lt-ltb _ _ (c .if4 .taken) in
-    rw (m, k, n, none)
+returns-4 c = rw (modulus-passed (c .before .before .before .before .before .before), coefficients-passed (c .before .before .before .before), batch-passed (c .before .before), ← c .before .smallest-width .ensures, lt-ltb _ _ (c .if4 .taken))
 
 returns-5 : tie.Need-returns-5
 unfolding chooseAnswer noneCause
-returns-5 c =
-    let a = c .before .before .before .before .before .before .before .before .args in
-    let m : modulusCause (a .p) ≡ false = cc in
-    let k : lengthCause (a .k) ≡ false = cc in
-    let n : batchCause (a .n) ≡ false = cc in
-    let fits : ltb 63 (smallestWidth (a .p) (a .k) (a .n)) ≡ false = ap (ltb 63) (sym (c .before .smallest-width .ensures)) ∙ le-ltb _ _ (c .if4 .left) in
-    rw (m, k, n, fits, c .before .smallest-width .ensures)
+returns-5 c = rw (modulus-passed (c .before .before .before .before .before .before), coefficients-passed (c .before .before .before .before), batch-passed (c .before .before), ← c .before .smallest-width .ensures, le-ltb _ _ (c .if4 .left))
 
 pub choose-spec : {M : Type 1} → statement M
 choose-spec =

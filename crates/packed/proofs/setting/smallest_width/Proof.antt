@@ -1,7 +1,6 @@
 -- `smallest_width` meets its contract: the search from 1 is the search from t, at every turn. Assumes nothing.
 use Prim.Native.Nat.{_≤_, _-_}
 use mathlib.Core.Path.{_≡_, refl, sym, _∙_}
-use mathlib.Core.Bool.{true, false}
 use native.Mathlib.Omega.{arith}
 use Rattle.polynomials.specs.Indices.{first}
 use Rattle.polynomials.specs.IndexLaws.{first-found, first-passed, first-ended}
@@ -26,8 +25,7 @@ returns : tie.Need-returns Inv-loop μ-loop
 returns c =
     let a = c .before .before .before .before .args in
     let t = c .before .before .before .loop .t in
-    let e : escapes (a .p) (a .k) (a .n) t ≡ true = cc in
-    sym (c .before .before .before .loop .inv .2 ∙ first-found (escapes (a .p) (a .k) (a .n)) 64 t (omega arith) e)
+    sym (c .before .before .before .loop .inv .2 ∙ first-found (escapes (a .p) (a .k) (a .n)) 64 t (omega arith) (sym (c .before .width-escapes .ensures) ∙ c .if1 .taken))
 
 add-t : tie.Need-add-t Inv-loop μ-loop
 add-t c = omega arith
@@ -39,8 +37,7 @@ loop-again : tie.Need-loop-again Inv-loop μ-loop
 loop-again c =
     let a = c .before .before .before .before .args in
     let t = c .before .before .before .loop .t in
-    let e : escapes (a .p) (a .k) (a .n) t ≡ false = cc in
-    (omega arith, omega arith, c .before .before .before .loop .inv .2 ∙ first-passed (escapes (a .p) (a .k) (a .n)) 64 t (omega arith) e)
+    (omega arith, omega arith, c .before .before .before .loop .inv .2 ∙ first-passed (escapes (a .p) (a .k) (a .n)) 64 t (omega arith) (sym (c .before .width-escapes .ensures) ∙ c .if1 .left))
 
 returns-2 : tie.Need-returns-2 Inv-loop μ-loop
 returns-2 c =

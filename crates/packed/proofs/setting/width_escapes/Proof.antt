@@ -1,8 +1,6 @@
 -- `width_escapes` meets its contract. Assumes nothing.
-use mathlib.Core.Path.{_≡_}
-use mathlib.Core.Bool.{true, false}
+use mathlib.Core.Path.{sym, _∙_}
 use borrow.Author.Needs.{needs}
-use Rattle.packed.specs.Settings.{narrowCause}
 use Rattle.packed.specs.Choices.{escapes}
 use Rattle.packed.proofs.setting.width_escapes.Statement.{statement}
 use Rattle.packed.proofs.setting.width_escapes.Tie as tie
@@ -12,14 +10,14 @@ narrow-cause-requires c κs = search needs
 
 returns : tie.Need-returns
 unfolding escapes
-returns c = let h : narrowCause (c .before .before .args .s) ≡ true = cc in rw h
+returns c = rw (sym (c .before .narrow-cause .ensures) ∙ c .if1 .taken)
 
 room-cause-requires : tie.Need-room-cause-requires
 room-cause-requires c κs = search needs
 
 returns-2 : tie.Need-returns-2
 unfolding escapes
-returns-2 c = let h : narrowCause (c .before .before .before .args .s) ≡ false = cc in rw (h, c .room-cause .ensures)
+returns-2 c = rw (sym (c .before .before .narrow-cause .ensures) ∙ c .before .if1 .left, c .room-cause .ensures)
 
 pub width-escapes-spec : {M : Type 1} → statement M
 width-escapes-spec =

@@ -1,3 +1,4 @@
+-- `power` meets its contract: 1 shifted by t below 64 loses no bit. Assumes nothing.
 use lib.Dec.{lit<}
 use lib.Pow.{shl-exact}
 use mathlib.Core.Path.{_∙_}
@@ -6,14 +7,10 @@ use native.Mathlib.Omega.{arith}
 use borrow.Author.Needs.{needs}
 use Rattle.packed.proofs.words.power.Statement.{statement}
 use Rattle.packed.proofs.words.power.Tie as tie
-use Rattle.packed.proofs.words.power.Reads as reads
-use Rattle.packed.proofs.words.power.Lts as lts
 
--- src/words.rt:10:5
 shl-result : tie.Need-shl-result
 shl-result c = search needs
 
--- src/words.rt:6:1
 returns : tie.Need-returns
 returns c = shl-exact 1 (c .args .t) 64 (lit< tt) (omega arith) ∙ one-mul _
 
