@@ -1,5 +1,5 @@
 -- What is worked out of a setting in range fits a 64-bit word. Assumes nothing.
-use Prim.Native.Nat.{ℕ, _-_, _*_, _≤_}
+use Prim.Native.Nat.{_-_, _*_, _≤_}
 use native.Mathlib.Nat.{mul-le-mul}
 use native.Mathlib.Omega.{arith}
 use Rattle.packed.specs.Settings.{batchTop, spanOf, places, InRange}

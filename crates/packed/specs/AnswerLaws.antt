@@ -2,11 +2,14 @@
 --     passed, passed-last     a value was answered, so this cause did not hold
 --     passed-over             another number was given, so this cause did not hold
 --     refusal-same            a refusal is its number and its place
-use Prim.Native.Nat.{ℕ}
-use mathlib.Core.Path.{_≡_, refl, sym, ap, _∙_}
+--     left-length             a lent list keeps its length
+use Prim.Native.Nat.{ℕ, _≤_}
+use mathlib.Core.Path.{_≡_, refl}
 use mathlib.Core.Bool.{Bool, true, false}
+use mathlib.Core.List.{List}
 use native.Mathlib.Omega.{arith}
-use Rattle.packed.specs.Answers.{Answer, answered, refused, Verdict, fine, refuse, _andThen_}
+use lib.ListN.{length, length-append, length-drop}
+use Rattle.packed.specs.Answers.{Answer, answered, refused, Verdict, fine, refuse, _andThen_, leftBy}
 use Rattle.packed.specs.declared.refusals.Refusal.{Refusal}
 
 pub never : {A : Type 0} (number place : ℕ) (v : A) → refused number place ≡ answered v → ⊥
@@ -31,3 +34,7 @@ refusal-same r x e =
     let number : r .number ≡ x .number = cc in
     let place : r .place ≡ x .place = cc in
     λ i. record { number = number i; place = place i }
+
+pub left-length : (v : Verdict) (new old : List ℕ) → (v ≡ fine → length new ≤ length old) → length (leftBy v new old) ≡ length old
+left-length (answered u) new old h = simp (length-append, length-drop) (omega (arith, h refl))
+left-length (refused number place) new old h = refl

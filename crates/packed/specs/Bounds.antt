@@ -3,22 +3,21 @@
 --     bounds         a setting that no check refuses has these bounds: the one law that looks into 5 and 6
 --     batch-sum      the packed products of up to n pairs add up to less than 2^64
 use Prim.Native.Nat.{ℕ, suc, _+_, _-_, _*_, _^_, _≤_, _<_}
-use mathlib.Core.Path.{_≡_, refl, sym, ap, _∙_}
+use mathlib.Core.Path.{_≡_, sym, _∙_}
 use mathlib.Core.List.{List}
 use native.Mathlib.Nat.{le-trans, lt-of-le-of-lt, lt-of-lt-of-le, le-mul-of-pos-right, mul-le-mul-right, mul-le-mul, mul-pos, mul-comm, pow-succ'}
 use native.Mathlib.Decide.{decLt}
 use native.Mathlib.Omega.{arith}
-use lib.Dec.{leb, lit≤}
 use lib.ListN.{length}
 use lib.Pow.{pow-mono}
 use borrow.Author.Tests.{leb-false}
-use Rattle.polynomials.specs.Lists.{coefficient, product, Within, Operand, Pair, Pairs, sumOfProducts, productMost, batchMost}
+use Rattle.polynomials.specs.Lists.{coefficient, product, Within, Operand, Pair, Pairs, sumOfProducts, batchMost}
 use Rattle.polynomials.specs.Places.{packed, sumOfWords}
 use Rattle.polynomials.specs.BoundLaws.{product-most, batch-most, batch-more, batch-narrow, batch-past}
 use Rattle.polynomials.specs.PlaceLaws.{packed-product, packed-sumOfProducts, packed-top, power-power}
 use Rattle.packed.specs.Answers.{fine}
 use Rattle.packed.specs.AnswerLaws.{passed, passed-last}
-use Rattle.packed.specs.Settings.{modulusCause, lengthCause, batchCause, widthCause, narrowCause, roomCause, settingChecks, base, places, batchTop, spanOf, InRange}
+use Rattle.packed.specs.Settings.{modulusCause, lengthCause, batchCause, widthCause, narrowCause, roomCause, settingChecks, base, batchTop, spanOf, InRange}
 use Rattle.packed.specs.SettingLaws.{in-choice, in-range}
 use Rattle.packed.specs.declared.setting.Setting.{Setting}
 

@@ -4,18 +4,17 @@
 --     choose-width          a width is answered exactly where it is the smallest
 --     choose-none           7 is given exactly where no width from 1 to 63 escapes
 --     choose-accepted       a setting with the chosen width is accepted
-use Prim.Native.Nat.{ℕ, _+_, _≤_, _<_}
+use Prim.Native.Nat.{ℕ, _≤_, _<_}
 use mathlib.Core.Path.{_≡_, refl, sym, ap, _∙_}
 use mathlib.Core.Bool.{Bool, true, false, not, _&&_, false≢true}
 use mathlib.Core.Logic.{_↔_}
 use native.Mathlib.Omega.{arith}
-use lib.Dec.{ltb}
-use borrow.Author.Tests.{lt-ltb, le-ltb, ltb-true, ltb-false}
+use borrow.Author.Tests.{le-ltb, ltb-true, ltb-false}
 use Rattle.polynomials.specs.Indices.{First}
 use Rattle.polynomials.specs.IndexLaws.{first-is, first-only}
-use Rattle.packed.specs.Answers.{Answer, answered, refused, fine, refuse, _andThen_}
+use Rattle.packed.specs.Answers.{answered, refused, fine, refuse, _andThen_}
 use Rattle.packed.specs.AnswerLaws.{never, passed, passed-over}
-use Rattle.packed.specs.Settings.{modulusCause, lengthCause, batchCause, widthCause, narrowCause, roomCause, settingChecks}
+use Rattle.packed.specs.Settings.{modulusCause, lengthCause, batchCause, narrowCause, roomCause, settingChecks}
 use Rattle.packed.specs.SettingLaws.{inside}
 use Rattle.packed.specs.Choices.{settingOf, escapes, smallestWidth, noneCause, chooseAnswer}
 

@@ -5,6 +5,7 @@ pub mod Settings
 pub mod Choices
 pub mod AnswerLaws
 pub mod SettingLaws
+pub mod Coefficients
 pub mod Bounds
 pub mod ChoiceLaws
 pub mod Examples

@@ -1,15 +1,13 @@
 -- What the checks of a setting say. Assumes nothing.
 --     within, inside          a range's test, and what it says
 --     in-choice, in-range     what passes 1 to 3, and 1 to 4, is in range
-use Prim.Native.Nat.{ℕ, _-_, _*_, _^_, _≤_, _<_}
-use mathlib.Core.Path.{_≡_, refl, sym, ap, _∙_}
+use Prim.Native.Nat.{ℕ, _≤_}
+use mathlib.Core.Path.{_≡_, refl}
 use mathlib.Core.Bool.{Bool, true, false, _||_}
-use native.Mathlib.Omega.{arith}
-use lib.Dec.{ltb, leb}
+use lib.Dec.{ltb}
 use borrow.Author.Tests.{ltb-false, le-ltb}
 use Rattle.packed.specs.Limits.{largestModulus, mostCoefficients, largestBatch, widest}
-use Rattle.packed.specs.Answers.{Answer, answered, refused, Verdict, fine, refuse, _andThen_}
-use Rattle.packed.specs.Settings.{outside, modulusCause, lengthCause, batchCause, widthCause, narrowCause, roomCause, settingChecks, InChoice, InRange}
+use Rattle.packed.specs.Settings.{outside, modulusCause, lengthCause, batchCause, widthCause, InChoice, InRange}
 use Rattle.packed.specs.declared.setting.Setting.{Setting}
 
 neither : (a b : Bool) → (a || b) ≡ false → (a ≡ false) × (b ≡ false)

@@ -14,7 +14,7 @@ use mathlib.Core.Path.{_≡_, refl, sym, ap, _∙_}
 use mathlib.Core.Bool.{Bool, _||_}
 use lib.Dec.{ltb, leb}
 use Rattle.packed.specs.Limits.{largestModulus, mostCoefficients, largestBatch, widest, wordBits}
-use Rattle.packed.specs.Answers.{Answer, answered, refused, Verdict, fine, refuse, _andThen_}
+use Rattle.packed.specs.Answers.{refused, Verdict, fine, refuse, _andThen_}
 use Rattle.packed.specs.AnswerLaws.{never, refusal-same}
 use Rattle.packed.specs.declared.setting.Setting.{Setting}
 use Rattle.packed.specs.declared.setting.Checked.{Checked}

@@ -4,13 +4,13 @@
 --     batch-more       more products, a larger bound
 --     batch-narrow     no place of r products is above r k (p - 1)^2
 --     batch-past       from 2k - 1 on there is nothing
-use Prim.Native.Nat.{ℕ, zero, suc, _+_, _-_, _*_, _≤_, _<_, min, zero-le}
-use mathlib.Core.Path.{_≡_, refl, sym, ap, _∙_}
+use Prim.Native.Nat.{ℕ, suc, _+_, _-_, _*_, _≤_, _<_, min, zero-le}
+use mathlib.Core.Path.{_≡_}
 use mathlib.Core.List.{List, [], _∷_}
 use native.Mathlib.Nat.{le-trans, mul-le-mul, mul-le-mul-left, mul-le-mul-right, mul-zero, zero-mul, suc-mul, mul-assoc}
 use native.Mathlib.Omega.{arith}
 use lib.ListN.{length}
-use Rattle.polynomials.specs.Lists.{coefficient, sum, product, Below, Within, Operand, Pair, Pairs, sumOfProducts, productMost, batchMost}
+use Rattle.polynomials.specs.Lists.{coefficient, product, Within, Operand, Pair, Pairs, sumOfProducts, productMost, batchMost}
 use Rattle.polynomials.specs.IndexLaws.{sum-window}
 use Rattle.polynomials.specs.ListLaws.{coefficient-past, coefficient-sum, coefficient-product}
 

@@ -8,9 +8,8 @@ use mathlib.Core.List.{List, [], _∷_}
 use native.Mathlib.Nat.{zero-add, add-zero, zero-mul, mul-zero, zero-mod, sub-zero, suc-sub-suc}
 use native.Mathlib.Decide.{decLt}
 use native.Mathlib.Omega.{arith}
-use lib.ListN.{length, getD, List·getD-eq-default}
+use lib.ListN.{length, List·getD-eq-default}
 use lib.Seq.{ext-getD}
-use Rattle.polynomials.specs.Indices.{sumTo, upto}
 use Rattle.polynomials.specs.Lists.{coefficient, sum, scaled, productLength, productAt, product, residues}
 use Rattle.polynomials.specs.IndexLaws.{length-upto, getD-upto, getD-upto-out, sum-zero, sum-front, sum-same}
 

@@ -7,10 +7,10 @@
 --     packed-fields                packing the fields of a number gives it back
 --     packed-top                   lower fields below q and the top one at most c: a number below (c + 1) q^m
 --     power-power                  place i of the base b^t starts at b^(i t)
-use Prim.Native.Nat.{ℕ, zero, suc, _+_, _-_, _*_, _/_, _%_, _^_, _≤_, _<_}
-use mathlib.Core.Path.{_≡_, refl, sym, ap, _∙_}
+use Prim.Native.Nat.{ℕ, zero, suc, _+_, _*_, _/_, _%_, _^_, _≤_, _<_}
+use mathlib.Core.Path.{_≡_, refl, sym, _∙_}
 use mathlib.Core.List.{List, [], _∷_, _++_}
-use native.Mathlib.Nat.{zero-add, add-zero, zero-mul, mul-zero, one-mul, mul-one, mul-comm, mul-assoc, mul-le-mul-left, mul-pos, suc-mul, pow-zero, pow-suc, pow-succ', zero-mod, zero-div, mod-one, div-one, mod-eq-of-lt, div-eq-of-lt, add-mul-div-left, add-mul-mod-self-left, div-div-eq-div-mul, one-le-pow}
+use native.Mathlib.Nat.{zero-add, zero-mul, mul-zero, mul-one, mul-comm, mul-le-mul-left, mul-pos, suc-mul, pow-zero, pow-succ', zero-mod, zero-div, mod-one, div-one, mod-eq-of-lt, div-eq-of-lt, add-mul-div-left, add-mul-mod-self-left, div-div-eq-div-mul, one-le-pow}
 use native.Mathlib.Omega.{arith}
 use lib.Arith.{mod-mul}
 use lib.ListN.{length}

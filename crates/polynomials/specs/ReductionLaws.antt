@@ -2,11 +2,11 @@
 --     minus-below, minus-is     minus p u w is below p, and adding w to it gives u modulo p: no other number does both
 --     reduced-shifted           m_i = (u_i - q u_(i + 1)) mod p
 --     reduced-last              the last m is the last u
-use Prim.Native.Nat.{ℕ, zero, suc, _+_, _-_, _*_, _/_, _%_, _^_, _≤_, _<_}
-use mathlib.Core.Path.{_≡_, refl, sym, ap, _∙_}
+use Prim.Native.Nat.{ℕ, suc, _+_, _-_, _*_, _/_, _%_, _^_, _<_}
+use mathlib.Core.Path.{_≡_, sym, ap, _∙_}
 use native.Mathlib.Nat.{mod-lt, mod-add-mod, mod-add-div, div-add-mod', add-mul-mod-self-right, suc-mul, pow-suc, pow-succ', div-div-eq-div-mul, div-lt-iff-lt-mul, mod-eq-of-lt, one-le-pow}
 use native.Mathlib.Omega.{arith}
-use Rattle.polynomials.specs.Places.{field, shifted, reduced, minus}
+use Rattle.polynomials.specs.Places.{shifted, reduced, minus}
 
 pub mul-mod : (a b p : ℕ) → a * (b % p) % p ≡ a * b % p
 mul-mod a b p =

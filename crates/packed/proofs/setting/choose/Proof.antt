@@ -3,6 +3,7 @@ use mathlib.Core.Path.{_≡_, sym, _∙_}
 use mathlib.Core.Bool.{false}
 use borrow.Author.Needs.{needs}
 use borrow.Author.Tests.{lt-ltb, le-ltb}
+use Rattle.packed.specs.Limits.{widest}
 use Rattle.packed.specs.Settings.{modulusCause, lengthCause, batchCause}
 use Rattle.packed.specs.SettingLaws.{in-choice}
 use Rattle.packed.specs.Choices.{noneCause, chooseAnswer}
@@ -48,11 +49,11 @@ smallest-width-requires c κs = in-choice _ _ _ (modulus-passed (c .before .befo
 
 returns-4 : tie.Need-returns-4
 unfolding chooseAnswer noneCause
-returns-4 c = rw (modulus-passed (c .before .before .before .before .before .before), coefficients-passed (c .before .before .before .before), batch-passed (c .before .before), ← c .before .smallest-width .ensures, lt-ltb _ _ (c .if4 .taken))
+returns-4 c = rw (modulus-passed (c .before .before .before .before .before .before), coefficients-passed (c .before .before .before .before), batch-passed (c .before .before), ← c .before .smallest-width .ensures, lt-ltb widest _ (c .if4 .taken))
 
 returns-5 : tie.Need-returns-5
 unfolding chooseAnswer noneCause
-returns-5 c = rw (modulus-passed (c .before .before .before .before .before .before), coefficients-passed (c .before .before .before .before), batch-passed (c .before .before), ← c .before .smallest-width .ensures, le-ltb _ _ (c .if4 .left))
+returns-5 c = rw (modulus-passed (c .before .before .before .before .before .before), coefficients-passed (c .before .before .before .before), batch-passed (c .before .before), ← c .before .smallest-width .ensures, le-ltb widest _ (c .if4 .left))
 
 pub choose-spec : {M : Type 1} → statement M
 choose-spec =

@@ -1,0 +1,71 @@
+-- 8, an input coefficient of p or more. Definitions, and what passing the check says.
+--     tooLarge p xs i           coefficient i is p or more
+--     firstBad p xs             the first such index, and the length where there is none
+--     firstBadOfTwo p xs ys     the first list is searched first, and an index in the second has the first's length added
+--     coefficientCheck p xs, coefficientsCheck p xs ys
+--                               8 with that place, for one list and for two
+--     coefficient-check, coefficients-check
+--                               they pass exactly where every coefficient is below p
+use Prim.Native.Nat.{ℕ, _+_, _≤_, _<_}
+use mathlib.Core.Path.{_≡_, refl}
+use mathlib.Core.Bool.{Bool, true, false}
+use mathlib.Core.List.{List}
+use mathlib.Core.Logic.{_↔_}
+use native.Mathlib.Decide.{decLt}
+use native.Mathlib.Omega.{arith}
+use lib.Dec.{leb, ltb}
+use lib.ListN.{length}
+use borrow.Author.Tests.{lt-leb, leb-false, le-ltb, ltb-true, ltb-false}
+use Rattle.polynomials.specs.Indices.{pick, first}
+use Rattle.polynomials.specs.IndexLaws.{first-is, first-only}
+use Rattle.polynomials.specs.Lists.{coefficient, Below}
+use Rattle.polynomials.specs.ListLaws.{coefficient-past}
+use Rattle.packed.specs.Answers.{Verdict, fine, refuse}
+use Rattle.packed.specs.AnswerLaws.{passed-last}
+
+abbrev pub tooLarge : ℕ → List ℕ → ℕ → Bool
+tooLarge p xs i = leb p (coefficient xs i)
+
+abbrev pub firstBad : ℕ → List ℕ → ℕ
+firstBad p xs = first (tooLarge p xs) (length xs) 0
+
+abbrev pub firstBadOfTwo : ℕ → List ℕ → List ℕ → ℕ
+firstBadOfTwo p xs ys = pick (ltb (firstBad p xs) (length xs)) (firstBad p xs) (length xs + firstBad p ys)
+
+abbrev pub coefficientCheck : ℕ → List ℕ → Verdict
+coefficientCheck p xs = refuse (ltb (firstBad p xs) (length xs)) 8 (firstBad p xs)
+
+abbrev pub coefficientsCheck : ℕ → List ℕ → List ℕ → Verdict
+coefficientsCheck p xs ys = refuse (ltb (firstBadOfTwo p xs ys) (length xs + length ys)) 8 (firstBadOfTwo p xs ys)
+
+-- no index is bad: every coefficient is below p, also the zeros past the end
+none-bad : (p : ℕ) (xs : List ℕ) → 0 < p → length xs ≤ firstBad p xs → Below p xs
+none-bad p xs hp h j = go (decLt j (length xs))
+  where
+    go : Dec (j < length xs) → coefficient xs j < p
+    go (yes l) = leb-false p (coefficient xs j) (first-is (tooLarge p xs) (length xs) 0 .none-before j (omega arith) (omega arith))
+    go (no l) = rw (coefficient-past xs j (omega arith)) hp
+
+all-below : (p : ℕ) (xs : List ℕ) → Below p xs → firstBad p xs ≡ length xs
+all-below p xs h =
+    first-only (tooLarge p xs) (length xs) 0 (firstBad p xs) (length xs) (first-is (tooLarge p xs) (length xs) 0)
+    (record { low = omega arith; high = omega arith; none-before = λ j a b. lt-leb p (coefficient xs j) (h j); holds = λ a. absurd (omega arith) })
+
+pub coefficient-check : (p : ℕ) (xs : List ℕ) → 0 < p → (coefficientCheck p xs ≡ fine) ↔ Below p xs
+coefficient-check p xs hp = (
+  λ e. none-bad p xs hp (ltb-false (firstBad p xs) (length xs) (passed-last (ltb (firstBad p xs) (length xs)) 8 (firstBad p xs) e)),
+  λ h. rw (le-ltb (firstBad p xs) (length xs) (omega (arith, all-below p xs h))),
+)
+
+two-none : (p : ℕ) (xs ys : List ℕ) (inFirst : Bool) → ltb (firstBad p xs) (length xs) ≡ inFirst → length xs + length ys ≤ pick inFirst (firstBad p xs) (length xs + firstBad p ys)
+    → (length xs ≤ firstBad p xs) × (length ys ≤ firstBad p ys)
+two-none p xs ys true e h = let bad = ltb-true (firstBad p xs) (length xs) e in absurd (omega arith)
+two-none p xs ys false e h = (ltb-false (firstBad p xs) (length xs) e, omega arith)
+
+pub coefficients-check : (p : ℕ) (xs ys : List ℕ) → 0 < p → (coefficientsCheck p xs ys ≡ fine) ↔ (Below p xs × Below p ys)
+coefficients-check p xs ys hp = (
+  λ e. let none = two-none p xs ys (ltb (firstBad p xs) (length xs)) refl (ltb-false (firstBadOfTwo p xs ys) (length xs + length ys) (passed-last (ltb (firstBadOfTwo p xs ys) (length xs + length ys)) 8 (firstBadOfTwo p xs ys) e)) in
+      (none-bad p xs hp (none .0), none-bad p ys hp (none .1)),
+  λ h. let good : ltb (firstBad p xs) (length xs) ≡ false = le-ltb (firstBad p xs) (length xs) (omega (arith, all-below p xs (h .0))) in
+      rw (good, le-ltb (length xs + firstBad p ys) (length xs + length ys) (omega (arith, all-below p ys (h .1)))),
+)
