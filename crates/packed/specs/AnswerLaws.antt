@@ -1,16 +1,16 @@
 -- Checks in order: what an answer tells of them. Assumes nothing.
+--     never                   a refusal is no value
 --     passed, passed-last     a value was answered, so this cause did not hold
 --     passed-over             another number was given, so this cause did not hold
---     refusal-same            a refusal is its number and its place
+--     once                    an answer is fixed by its numbers: two that say the same are equal
 --     left-length             a lent list keeps its length
 use Prim.Native.Nat.{ℕ, _≤_}
-use mathlib.Core.Path.{_≡_, refl}
+use mathlib.Core.Path.{_≡_, refl, sym, ap, _∙_}
 use mathlib.Core.Bool.{Bool, true, false}
 use mathlib.Core.List.{List}
 use native.Mathlib.Omega.{arith}
 use lib.ListN.{length, length-append, length-drop}
 use Rattle.packed.specs.Answers.{Answer, answered, refused, Verdict, fine, refuse, _andThen_, leftBy}
-use Rattle.packed.specs.declared.refusals.Refusal.{Refusal}
 
 pub never : {A : Type 0} (number place : ℕ) (v : A) → refused number place ≡ answered v → ⊥
 never number place v e = let z : _≡_ {A = ℕ} 0 1 = cc in omega arith
@@ -29,11 +29,9 @@ pub passed-over : {A : Type 0} (cause : Bool) (number place : ℕ) (a : Answer A
 passed-over true number place a n i other e = absurd (other (cc))
 passed-over false number place a n i other e = (refl, e)
 
-pub refusal-same : {A : Type 0} (r x : Refusal) → _≡_ {A = Answer A} (refused (r .number) (r .place)) (refused (x .number) (x .place)) → r ≡ x
-refusal-same r x e =
-    let number : r .number ≡ x .number = cc in
-    let place : r .place ≡ x .place = cc in
-    λ i. record { number = number i; place = place i }
+-- says gives the numbers of an answer's cases, and back takes them to the case again
+pub once : {E A : Type 0} (says : E → Answer A) (back : Answer A → E) → ((r : E) → back (says r) ≡ r) → (a b : E) (x : Answer A) → says a ≡ x → says b ≡ x → a ≡ b
+once says back same a b x ha hb = sym (same a) ∙ ap back (ha ∙ sym hb) ∙ same b
 
 pub left-length : (v : Verdict) (new old : List ℕ) → (v ≡ fine → length new ≤ length old) → length (leftBy v new old) ≡ length old
 left-length (answered u) new old h = simp (length-append, length-drop) (omega (arith, h refl))

@@ -2,19 +2,19 @@
 --     settingOf p k t n       the setting of four numbers
 --     escapes p k n t         the width t escapes both 5 and 6
 --     smallestWidth p k n     the first width from 1 to 63 that does, and 64 where none does
---     noneCause p k n         7: no t in 1..63 escapes both 5 and 6
+--     noneCause p k n         7 None: no t in 1..63 escapes both 5 and 6
 --     chooseAnswer p k n      1, 2, 3, 7 in order, and then the width
---     chosenSays              what each case of choose's answer stands for
+--     chosenSays              the width, or number and place, that each case of choose's answer stands for; chosenOf, the way back
 --     Chooses p k n r         the promise of choose; choose-once: it allows one answer only
 use Prim.Native.Nat.{ℕ}
-use mathlib.Core.Path.{_≡_, sym, ap, _∙_}
+use mathlib.Core.Path.{_≡_, refl}
 use mathlib.Core.Bool.{Bool, not, _&&_}
 use lib.Dec.{ltb}
 use Rattle.polynomials.specs.Indices.{first}
 use Rattle.packed.specs.Limits.{widest}
 use Rattle.packed.specs.Answers.{Answer, answered, refused, refuse, _andThen_}
 use Rattle.packed.specs.Settings.{modulusCause, lengthCause, batchCause, narrowCause, roomCause}
-use Rattle.packed.specs.AnswerLaws.{never, refusal-same}
+use Rattle.packed.specs.AnswerLaws.{once}
 use Rattle.packed.specs.declared.setting.Setting.{Setting}
 use Rattle.packed.specs.declared.setting.Chosen.{Chosen}
 use Rattle.packed.specs.declared.setting.Chosen.the-variants.{Width, Refused}
@@ -46,11 +46,13 @@ chosenSays (Refused r) = refused (r .number) (r .place)
 abbrev pub Chooses : ℕ → ℕ → ℕ → Chosen → Type 0
 Chooses p k n r = chosenSays r ≡ chooseAnswer p k n
 
-chosen-same : (a b : Chosen) → chosenSays a ≡ chosenSays b → a ≡ b
-chosen-same (Width t) (Width u) e = cc
-chosen-same (Width t) (Refused r) e = absurd (never (r .number) (r .place) t (sym e))
-chosen-same (Refused r) (Width t) e = absurd (never (r .number) (r .place) t e)
-chosen-same (Refused r) (Refused x) e = ap Refused (refusal-same r x e)
+abbrev pub chosenOf : Answer ℕ → Chosen
+chosenOf (answered t) = Width t
+chosenOf (refused number place) = Refused (record { number = number; place = place })
+
+chosen-back : (r : Chosen) → chosenOf (chosenSays r) ≡ r
+chosen-back (Width t) = refl
+chosen-back (Refused r) = refl
 
 pub choose-once : (p k n : ℕ) (a b : Chosen) → Chooses p k n a → Chooses p k n b → a ≡ b
-choose-once p k n a b ha hb = chosen-same a b (ha ∙ sym hb)
+choose-once p k n a b = once chosenSays chosenOf chosen-back a b (chooseAnswer p k n)

@@ -1,4 +1,5 @@
--- The limits of document 01. Each stands here once.
+-- The limits of document 01. Each stands here once, as it stands once in src/limits.rt.
+-- Coefficients and residues are 16-bit unsigned, u16 in the code; words and fields are 64-bit unsigned, u64.
 use Prim.Native.Nat.{ℕ}
 
 abbrev pub largestModulus : ℕ

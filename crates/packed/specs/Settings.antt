@@ -1,21 +1,26 @@
--- "The setting and its numbers": the causes 1 to 6, and the check of a setting.
---     modulusCause p, lengthCause k, batchCause n, widthCause t    1 to 4: outside its range
---     narrowCause s     5: 2^t <= n k (p-1)^2
---     roomCause s       6: (2k-1) t >= 64
---     settingChecks     1 to 6 in order
---     base s            q, a place's base
+-- "The setting and its numbers". A setting is p, k, t, n: modulus, coefficients per packed polynomial, bits per place, products added
+-- before a reduction. The numbers 1 to 6, each given exactly when its cause holds and none before it:
+--     modulusCause p    1 Modulus: p outside 2..65,536
+--     lengthCause k     2 Length: k outside 1..8
+--     batchCause n      3 Batch: n outside 1..1,048,576
+--     widthCause t      4 Width: t outside 1..63
+--     narrowCause s     5 Narrow: 2^t <= n k (p-1)^2
+--     roomCause s       6 Room: (2k-1) t >= 64
+-- 5 and 6 are condition (2) of document 003 with 64 bits. 7 stands in Choices, 8 in Coefficients, the others with the calls that give them.
+--     settingChecks     check a setting: 1 to 6 in order
+--     base s            q = 2^t
 --     places s          2k-1, the fields of a product
 --     InChoice p k n    what 1 to 3 leave
 --     InRange s         what 1 to 4 leave
---     checkedSays       what each case of check's answer stands for
+--     checkedSays       the number and place that each case of check's answer stands for; checkedOf, the way back
 --     Checks s r        the promise of check; check-once: it allows one answer only
 use Prim.Native.Nat.{ℕ, _-_, _*_, _^_, _≤_}
-use mathlib.Core.Path.{_≡_, refl, sym, ap, _∙_}
+use mathlib.Core.Path.{_≡_, refl}
 use mathlib.Core.Bool.{Bool, _||_}
 use lib.Dec.{ltb, leb}
 use Rattle.packed.specs.Limits.{largestModulus, mostCoefficients, largestBatch, widest, wordBits}
-use Rattle.packed.specs.Answers.{refused, Verdict, fine, refuse, _andThen_}
-use Rattle.packed.specs.AnswerLaws.{never, refusal-same}
+use Rattle.packed.specs.Answers.{answered, refused, Verdict, fine, refuse, _andThen_}
+use Rattle.packed.specs.AnswerLaws.{once}
 use Rattle.packed.specs.declared.setting.Setting.{Setting}
 use Rattle.packed.specs.declared.setting.Checked.{Checked}
 use Rattle.packed.specs.declared.setting.Checked.the-variants.{Accepted, Refused}
@@ -82,11 +87,13 @@ checkedSays (Refused r) = refused (r .number) (r .place)
 abbrev pub Checks : Setting → Checked → Type 0
 Checks s r = checkedSays r ≡ settingChecks s
 
-checked-same : (a b : Checked) → checkedSays a ≡ checkedSays b → a ≡ b
-checked-same Accepted Accepted e = refl
-checked-same Accepted (Refused r) e = absurd (never (r .number) (r .place) tt (sym e))
-checked-same (Refused r) Accepted e = absurd (never (r .number) (r .place) tt e)
-checked-same (Refused r) (Refused x) e = ap Refused (refusal-same r x e)
+abbrev pub checkedOf : Verdict → Checked
+checkedOf (answered u) = Accepted
+checkedOf (refused number place) = Refused (record { number = number; place = place })
+
+checked-back : (r : Checked) → checkedOf (checkedSays r) ≡ r
+checked-back Accepted = refl
+checked-back (Refused r) = refl
 
 pub check-once : (s : Setting) (a b : Checked) → Checks s a → Checks s b → a ≡ b
-check-once s a b ha hb = checked-same a b (ha ∙ sym hb)
+check-once s a b = once checkedSays checkedOf checked-back a b (settingChecks s)
