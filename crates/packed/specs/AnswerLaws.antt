@@ -4,13 +4,15 @@
 --     passed-over             another number was given, so this cause did not hold
 --     once                    an answer is fixed by its numbers: two that say the same are equal
 --     left-length             a lent list keeps its length
+--     wrote-left              it starts with the elements that the answer counts
 use Prim.Native.Nat.{ℕ, _≤_}
 use mathlib.Core.Path.{_≡_, refl, sym, ap, _∙_}
 use mathlib.Core.Bool.{Bool, true, false}
 use mathlib.Core.List.{List}
 use native.Mathlib.Omega.{arith}
-use lib.ListN.{length, length-append, length-drop}
-use Rattle.packed.specs.Answers.{Answer, answered, refused, Verdict, fine, refuse, _andThen_, leftBy}
+use lib.ListN.{length, take, drop, length-append, length-drop}
+use lib.Seq.{take-append-seam}
+use Rattle.packed.specs.Answers.{Answer, answered, refused, Verdict, fine, refuse, _andThen_, wrote, leftBy}
 
 pub never : {A : Type 0} (number place : ℕ) (v : A) → refused number place ≡ answered v → ⊥
 never number place v e = let z : _≡_ {A = ℕ} 0 1 = cc in omega arith
@@ -36,3 +38,9 @@ once says back same a b x ha hb = sym (same a) ∙ ap back (ha ∙ sym hb) ∙ s
 pub left-length : (v : Verdict) (new old : List ℕ) → (v ≡ fine → length new ≤ length old) → length (leftBy v new old) ≡ length old
 left-length (answered u) new old h = simp (length-append, length-drop) (omega (arith, h refl))
 left-length (refused number place) new old h = refl
+
+pub wrote-left : (v : Verdict) (new old : List ℕ) (m : ℕ) → wrote v new ≡ answered m → take m (leftBy v new old) ≡ new
+wrote-left (answered u) new old m e =
+    let count : m ≡ length new = cc in
+    rw count (take-append-seam new (drop (length new) old))
+wrote-left (refused number place) new old m e = absurd (never number place m e)

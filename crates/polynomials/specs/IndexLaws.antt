@@ -1,5 +1,5 @@
 -- Laws of what runs over an index. Assumes nothing.
---     length-upto, coefficient of upto (getD-upto, getD-upto-out)
+--     length-upto, upto-at, upto-past               the list's length, its elements, and zero past its end
 --     sum-zero, sum-front, sum-same, sum-window     sums: of zeros; first term apart; term by term; of a window of terms
 --     first-is, first-only                          the search finds what First says, and First says it of one number only
 --     first-found, first-passed, first-ended        a searching loop's turn at i: it stops, it goes on, it is through
@@ -20,16 +20,16 @@ pub length-upto : (n : ℕ) (f : ℕ → ℕ) → length (upto n f) ≡ n
 length-upto zero f = refl
 length-upto (suc n) f = length-append (upto n f) (f n ∷ []) ∙ omega (arith, length-upto n f)
 
-pub getD-upto : (n : ℕ) (f : ℕ → ℕ) (i : ℕ) → i < n → getD (upto n f) i 0 ≡ f i
-getD-upto zero f i h = absurd (not-suc-le-zero h)
-getD-upto (suc n) f i h =
+pub upto-at : (n : ℕ) (f : ℕ → ℕ) (i : ℕ) → i < n → getD (upto n f) i 0 ≡ f i
+upto-at zero f i h = absurd (not-suc-le-zero h)
+upto-at (suc n) f i h =
     ⊎-elim
     (λ e. let e2 : i ≡ n = omega arith in rw e2 (getD-at (upto n f) (f n) [] 0 n (length-upto n f)))
-    (λ l. let l2 : i < n = omega arith in List·getD-append (upto n f) (f n ∷ []) 0 i (rw length-upto l2) ∙ getD-upto n f i l2)
+    (λ l. let l2 : i < n = omega arith in List·getD-append (upto n f) (f n ∷ []) 0 i (rw length-upto l2) ∙ upto-at n f i l2)
     (eq-or-lt-of-le (le-of-suc-le-suc h))
 
-pub getD-upto-out : (n : ℕ) (f : ℕ → ℕ) (i : ℕ) → n ≤ i → getD (upto n f) i 0 ≡ 0
-getD-upto-out n f i h = List·getD-eq-default (upto n f) 0 {n = i} (rw length-upto h)
+pub upto-past : (n : ℕ) (f : ℕ → ℕ) (i : ℕ) → n ≤ i → getD (upto n f) i 0 ≡ 0
+upto-past n f i h = List·getD-eq-default (upto n f) 0 {n = i} (rw length-upto h)
 
 -- ---- sums
 

@@ -11,7 +11,7 @@ use native.Mathlib.Omega.{arith}
 use lib.ListN.{length, List·getD-eq-default}
 use lib.Seq.{ext-getD}
 use Rattle.polynomials.specs.Lists.{coefficient, sum, scaled, productLength, productAt, product, residues}
-use Rattle.polynomials.specs.IndexLaws.{length-upto, getD-upto, getD-upto-out, sum-zero, sum-front, sum-same}
+use Rattle.polynomials.specs.IndexLaws.{length-upto, upto-at, upto-past, sum-zero, sum-front, sum-same}
 
 pub lists-agree : (xs ys : List ℕ) → length xs ≡ length ys → ((j : ℕ) → j < length xs → coefficient xs j ≡ coefficient ys j) → xs ≡ ys
 lists-agree xs ys e h = ext-getD 0 xs ys e h
@@ -74,10 +74,10 @@ coefficient-product xs ys j = go (decLt j (productLength (length xs) (length ys)
     far (x ∷ xs) (y ∷ ys) h i l = omega arith
 
     go : Dec (j < productLength (length xs) (length ys)) → coefficient (product xs ys) j ≡ productAt xs ys j
-    go (yes h) = getD-upto (productLength (length xs) (length ys)) (productAt xs ys) j h
+    go (yes h) = upto-at (productLength (length xs) (length ys)) (productAt xs ys) j h
     go (no h) =
         let h2 : productLength (length xs) (length ys) ≤ j = omega arith in
-        getD-upto-out (productLength (length xs) (length ys)) (productAt xs ys) j h2 ∙ sym (productAt-past xs ys j (far xs ys h2))
+        upto-past (productLength (length xs) (length ys)) (productAt xs ys) j h2 ∙ sym (productAt-past xs ys j (far xs ys h2))
 
 -- x + x^1 (the rest), times ys: x ys, and the rest's product one place up
 pub product-row : (x : ℕ) (xs ys : List ℕ) (j : ℕ) → coefficient (product (x ∷ xs) ys) j ≡ coefficient (sum (scaled x ys) (0 ∷ product xs ys)) j

@@ -18,7 +18,7 @@ use lib.Pow.{pow-add}
 use Rattle.polynomials.specs.Indices.{upto}
 use Rattle.polynomials.specs.Lists.{coefficient, sum, scaled, product, Below, Pair, sumOfProducts}
 use Rattle.polynomials.specs.Places.{packed, field, fields, sumOfWords}
-use Rattle.polynomials.specs.IndexLaws.{length-upto, getD-upto}
+use Rattle.polynomials.specs.IndexLaws.{length-upto, upto-at}
 use Rattle.polynomials.specs.ListLaws.{lists-agree, product-row}
 
 pub packed-agree : (q : ℕ) (xs ys : List ℕ) → ((j : ℕ) → coefficient xs j ≡ coefficient ys j) → packed q xs ≡ packed q ys
@@ -65,7 +65,7 @@ field-packed q (x ∷ xs) h (suc i) =
 pub fields-packed : (q : ℕ) (xs : List ℕ) → Below q xs → fields q (length xs) (packed q xs) ≡ xs
 fields-packed q xs h =
     lists-agree (fields q (length xs) (packed q xs)) xs (length-upto (length xs) (field q (packed q xs)))
-    (λ j l. getD-upto (length xs) (field q (packed q xs)) j (rw length-upto at l) ∙ field-packed q xs h j)
+    (λ j l. upto-at (length xs) (field q (packed q xs)) j (rw length-upto at l) ∙ field-packed q xs h j)
 
 packed-fields-mod : (q : ℕ) → 0 < q → (m r : ℕ) → packed q (fields q m r) ≡ r % q ^ m
 packed-fields-mod q hq zero r = rw (pow-zero, mod-one)

@@ -1,5 +1,6 @@
 -- Residues of fields, and document 003's identity. Assumes nothing.
---     minus-below, minus-is     minus p u w is below p, and adding w to it gives u modulo p: no other number does both
+--     minus-below, minus-is     minus p u w is below p, and adding w to it gives u modulo p
+--     minus-only                no other number does both
 --     reduced-shifted           m_i = (u_i - q u_(i + 1)) mod p
 --     reduced-last              the last m is the last u
 use Prim.Native.Nat.{ℕ, suc, _+_, _-_, _*_, _/_, _%_, _^_, _<_}
@@ -26,6 +27,10 @@ minus-is p u w h = mod-add-mod (u + (p - w % p)) p w ∙ there-and-back p w u h
 -- w taken from f + w, both known modulo p only
 minus-sum : (p f w : ℕ) → 0 < p → minus p ((f + w) % p) w ≡ f % p
 minus-sum p f w h = mod-add-mod (f + w) p (p - w % p) ∙ ap (λ (n : ℕ). n % p) (omega arith) ∙ there-and-back p w f h
+
+pub minus-only : (p u w x : ℕ) → 0 < p → x < p → (x + w) % p ≡ u % p → x ≡ minus p u w
+minus-only p u w x h l e =
+    sym (mod-eq-of-lt l) ∙ sym (minus-sum p x w h) ∙ ap (λ (n : ℕ). minus p n w) e ∙ mod-add-mod u p (p - w % p)
 
 pub reduced-shifted : (p q r i : ℕ) → 0 < p → reduced p q r i ≡ minus p (shifted p q r i) (q * shifted p q r (suc i))
 reduced-shifted p q r i h =
