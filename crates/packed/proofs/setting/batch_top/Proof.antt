@@ -1,6 +1,7 @@
 -- `batch_top` meets its contract: the products fit, since p, k and n are in range. Assumes nothing.
+use native.Mathlib.Nat.{mul-le-mul, lt-of-le-of-lt}
 use native.Mathlib.Omega.{arith}
-use Rattle.packed.proofs.Ranges.{pairs-high, square-high, batch-top-high}
+use lib.Dec.{lit<}
 use borrow.Author.Needs.{needs}
 use Rattle.packed.proofs.setting.batch_top.Statement.{statement}
 use Rattle.packed.proofs.setting.batch_top.Tie as tie
@@ -9,13 +10,18 @@ sub-m : tie.Need-sub-m
 sub-m c = search needs
 
 mul-result : tie.Need-mul-result
-mul-result c = omega (arith, pairs-high (c .before .before .args .s) (c .before .before .pre))
+mul-result c = record { fits = lt-of-le-of-lt (mul-le-mul {n₂ = 1048576} {m₂ = 8} (omega arith) (omega arith)) (lit< tt) }
 
 mul-result-2 : tie.Need-mul-result-2
-mul-result-2 c = omega (arith, square-high (c .before .before .args .s) (c .before .before .pre))
+mul-result-2 c = record { fits = lt-of-le-of-lt (mul-le-mul {n₂ = 65535} {m₂ = 65535} (omega arith) (omega arith)) (lit< tt) }
 
 mul-result-3 : tie.Need-mul-result-3
-mul-result-3 c = omega (arith, batch-top-high (c .before .before .args .s) (c .before .before .pre))
+mul-result-3 c =
+    record {
+      fits = lt-of-le-of-lt
+          (mul-le-mul (mul-le-mul {n₂ = 1048576} {m₂ = 8} (omega arith) (omega arith)) (mul-le-mul {n₂ = 65535} {m₂ = 65535} (omega arith) (omega arith)))
+          (lit< tt);
+    }
 
 returns : tie.Need-returns
 returns c = search needs
