@@ -79,7 +79,7 @@ coefficient-product xs ys j = go (decLt j (productLength (length xs) (length ys)
         let h2 : productLength (length xs) (length ys) ≤ j = omega arith in
         upto-past (productLength (length xs) (length ys)) (productAt xs ys) j h2 ∙ sym (productAt-past xs ys j (far xs ys h2))
 
--- x + x^1 (the rest), times ys: x ys, and the rest's product one place up
+-- x times the second factor, and the rest's product one place up
 pub product-row : (x : ℕ) (xs ys : List ℕ) (j : ℕ) → coefficient (product (x ∷ xs) ys) j ≡ coefficient (sum (scaled x ys) (0 ∷ product xs ys)) j
 product-row x xs ys zero =
     coefficient-product (x ∷ xs) ys zero ∙ sym (coefficient-sum (scaled x ys) (0 ∷ product xs ys) zero ∙ omega (arith, coefficient-scaled x ys zero))

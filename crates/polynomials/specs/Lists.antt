@@ -11,8 +11,8 @@
 --     Operand p k xs            at most k coefficients, all below p: what is packed into one word
 --     Pair, Pairs p k cs        two lists; each of the pairs is two operands
 --     sumOfProducts cs          the products of the pairs, added up
---     productMost p k j         the most that coefficient j of a product of two operands can be
---     batchMost p k r j         the same for the sum of r such products
+--     productMost p k j         min(j + 1, 2k - 1 - j) (p - 1)^2, which bounds coefficient j of a product of two operands
+--     batchMost p k r j         r times that, for the sum of r such products
 use Prim.Native.Nat.{ℕ, zero, suc, _+_, _-_, _*_, _%_, _<_, _≤_, min}
 use mathlib.Core.List.{List, [], _∷_}
 use lib.ListN.{length, getD}
