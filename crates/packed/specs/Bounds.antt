@@ -15,6 +15,7 @@ use Rattle.polynomials.specs.Lists.{coefficient, product, Within, Operand, Pair
 use Rattle.polynomials.specs.Places.{packed, sumOfWords}
 use Rattle.polynomials.specs.BoundLaws.{product-most, batch-most, batch-more, batch-narrow, batch-past}
 use Rattle.polynomials.specs.PlaceLaws.{packed-product, packed-sumOfProducts, packed-top, power-power}
+use Rattle.packed.specs.Limits.{wordBits}
 use Rattle.packed.specs.Answers.{fine}
 use Rattle.packed.specs.AnswerLaws.{passed, passed-last}
 use Rattle.packed.specs.Settings.{modulusCause, lengthCause, batchCause, widthCause, narrowCause, roomCause, settingChecks, base, batchTop, spanOf, InRange}
@@ -26,7 +27,7 @@ pub record Bounds (s : Setting) : Type 0 where
   -- a coefficient is below the base
   pub coefficient-fits : s .p ≤ base s
   -- the last place starts within the word
-  pub last-place : (2 * s .k - 2) * s .t < 64
+  pub last-place : (2 * s .k - 2) * s .t < wordBits
   -- every field of a batch is below the base
   pub field-fits : (j : ℕ) → batchMost (s .p) (s .k) (s .n) j < base s
   -- the word of a batch is below 2^64
@@ -38,7 +39,7 @@ pub record Bounds (s : Setting) : Type 0 where
 record Rows (s : Setting) : Type 0 where
   range : InRange s
   wide : batchTop s < base s
-  room : spanOf s < 64
+  room : spanOf s < wordBits
 
 rows : (s : Setting) → settingChecks s ≡ fine → Rows s
 unfolding settingChecks
@@ -52,7 +53,7 @@ rows s e =
     record {
       range = in-range s (in-choice (s .p) (s .k) (s .n) (a .0) (b .0) (c .0)) (d .0);
       wide = leb-false (base s) (batchTop s) (f .0);
-      room = leb-false 64 (spanOf s) g;
+      room = leb-false wordBits (spanOf s) g;
     }
 
 module _ (s : Setting) (r : Rows s) where

@@ -1,4 +1,4 @@
-// The arithmetic under the public calls. Nothing here is tested: each function states what it assumes.
+// The arithmetic under the public calls. Nothing is refused here: each function states what it assumes.
 ghost use mathlib.Core.Path.{_≡_};
 ghost use Prim.Native.Nat.{_^_, _<_};
 

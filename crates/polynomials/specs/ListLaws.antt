@@ -1,5 +1,6 @@
 -- Laws of lists as polynomials. Assumes nothing.
 --     lists-agree                          two lists are equal if they have one length and all coefficients agree
+--     coefficient-past                     zero past the end
 --     length-LIST, coefficient-LIST        of a sum, a scaled list, a product, residues, each under that name
 --     product-row                          the first factor's lowest coefficient apart
 use Prim.Native.Nat.{ℕ, zero, suc, _+_, _-_, _*_, _%_, _≤_, _<_, max}

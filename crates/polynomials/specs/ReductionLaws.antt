@@ -9,7 +9,7 @@ use native.Mathlib.Nat.{mod-lt, mod-add-mod, mod-add-div, div-add-mod', add-mul-
 use native.Mathlib.Omega.{arith}
 use Rattle.polynomials.specs.Places.{shifted, reduced, minus}
 
-pub mul-mod : (a b p : ℕ) → a * (b % p) % p ≡ a * b % p
+mul-mod : (a b p : ℕ) → a * (b % p) % p ≡ a * b % p
 mul-mod a b p =
     sym (add-mul-mod-self-right (a * (b % p)) (a * (b / p)) p)
     ∙ ap (λ (n : ℕ). n % p) (omega (arith, ap (λ (n : ℕ). a * n) (div-add-mod' b p)))

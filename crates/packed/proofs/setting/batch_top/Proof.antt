@@ -3,6 +3,7 @@ use native.Mathlib.Nat.{mul-le-mul, lt-of-le-of-lt}
 use native.Mathlib.Omega.{arith}
 use lib.Dec.{lit<}
 use borrow.Author.Needs.{needs}
+use Rattle.packed.specs.Limits.{largestModulus, mostCoefficients, largestBatch}
 use Rattle.packed.proofs.setting.batch_top.Statement.{statement}
 use Rattle.packed.proofs.setting.batch_top.Tie as tie
 
@@ -10,16 +11,16 @@ sub-m : tie.Need-sub-m
 sub-m c = search needs
 
 mul-result : tie.Need-mul-result
-mul-result c = record { fits = lt-of-le-of-lt (mul-le-mul {n₂ = 1048576} {m₂ = 8} (omega arith) (omega arith)) (lit< tt) }
+mul-result c = record { fits = lt-of-le-of-lt (mul-le-mul {n₂ = largestBatch} {m₂ = mostCoefficients} (omega arith) (omega arith)) (lit< tt) }
 
 mul-result-2 : tie.Need-mul-result-2
-mul-result-2 c = record { fits = lt-of-le-of-lt (mul-le-mul {n₂ = 65535} {m₂ = 65535} (omega arith) (omega arith)) (lit< tt) }
+mul-result-2 c = record { fits = lt-of-le-of-lt (mul-le-mul {n₂ = largestModulus} {m₂ = largestModulus} (omega arith) (omega arith)) (lit< tt) }
 
 mul-result-3 : tie.Need-mul-result-3
 mul-result-3 c =
     record {
       fits = lt-of-le-of-lt
-          (mul-le-mul (mul-le-mul {n₂ = 1048576} {m₂ = 8} (omega arith) (omega arith)) (mul-le-mul {n₂ = 65535} {m₂ = 65535} (omega arith) (omega arith)))
+          (mul-le-mul (mul-le-mul {n₂ = largestBatch} {m₂ = mostCoefficients} (omega arith) (omega arith)) (mul-le-mul {n₂ = largestModulus} {m₂ = largestModulus} (omega arith) (omega arith)))
           (lit< tt);
     }
 
