@@ -1,5 +1,7 @@
 -- Laws of what runs over an index. Assumes nothing.
 --     length-upto, upto-at, upto-past               the list's length, its elements, and zero past its end
+--     upto-most                                     no element is above f's value there, also past the end
+--     filled-length, filled-more                    a filling loop keeps the list's length; its turn at i
 --     sum-zero, sum-front, sum-same, sum-window     sums: of zeros; first term apart; term by term; of a window of terms
 --     first-is, first-only                          the search finds what First says, and First says it of one number only
 --     first-found, first-passed, first-ended        a searching loop's turn at i: it stops, it goes on, it is through
@@ -7,14 +9,14 @@ use Prim.Native.Nat.{ℕ, zero, suc, _+_, _-_, _*_, _≤_, _<_, min, zero-le}
 use mathlib.Core.Path.{_≡_, refl, sym, ap, _∙_, fun-ext}
 use mathlib.Core.Bool.{Bool, true, false, true≢false}
 use mathlib.Core.Logic.{⊎-elim}
-use mathlib.Core.List.{[], _∷_}
+use mathlib.Core.List.{List, [], _∷_}
 use native.Mathlib.Nat.{not-suc-le-zero, le-of-suc-le-suc, eq-or-lt-of-le, mul-le-mul-right, suc-mul}
 use native.Mathlib.Decide.{decLt}
 use native.Mathlib.Numerals.{add-one}
 use native.Mathlib.Omega.{arith}
-use lib.ListN.{length, getD, length-append, List·getD-append, List·getD-eq-default}
-use lib.Seq.{getD-at}
-use Rattle.polynomials.specs.Indices.{pick, sumTo, upto, first, First}
+use lib.ListN.{length, getD, set, drop, length-append, length-drop, List·getD-append, List·getD-eq-default}
+use lib.Seq.{getD-at, set-at, drop-cons, append-snoc}
+use Rattle.polynomials.specs.Indices.{pick, sumTo, upto, filled, first, First}
 
 pub length-upto : (n : ℕ) (f : ℕ → ℕ) → length (upto n f) ≡ n
 length-upto zero f = refl
@@ -30,6 +32,23 @@ upto-at (suc n) f i h =
 
 pub upto-past : (n : ℕ) (f : ℕ → ℕ) (i : ℕ) → n ≤ i → getD (upto n f) i 0 ≡ 0
 upto-past n f i h = List·getD-eq-default (upto n f) 0 {n = i} (rw length-upto h)
+
+pub upto-most : (n : ℕ) (f : ℕ → ℕ) (i : ℕ) → getD (upto n f) i 0 ≤ f i
+upto-most n f i = go (decLt i n)
+  where
+    go : Dec (i < n) → getD (upto n f) i 0 ≤ f i
+    go (yes h) = rw (upto-at n f i h) (omega arith)
+    go (no h) = rw (upto-past n f i (omega arith)) zero-le
+
+-- ---- fills
+
+pub filled-length : (n : ℕ) (f : ℕ → ℕ) (old : List ℕ) → n ≤ length old → length (filled n f old) ≡ length old
+filled-length n f old h = simp (length-append, length-upto, length-drop) (omega arith)
+
+pub filled-more : (f : ℕ → ℕ) (old now : List ℕ) (i v : ℕ) → i < length old → now ≡ filled i f old → v ≡ f i → set now i v ≡ filled (i + 1) f old
+filled-more f old now i v h e w =
+    rw (e, w, add-one, drop-cons old i 0)
+    (set-at (upto i f) (getD old i 0) (drop (suc i) old) (f i) i (length-upto i f) ∙ sym (append-snoc (upto i f) (f i) (drop (suc i) old)))
 
 -- ---- sums
 

@@ -2,12 +2,14 @@
 --     pick b x y        x if b is true, y if it is false
 --     sumTo n f         f 0 + .. + f (n - 1)
 --     upto n f          the list f 0, .., f (n - 1)
+--     filled n f old    that list, and then what stands in old from place n on: what a loop has made of old that writes f i at place i
 --     first test n i    the first of the n numbers i, i + 1, .. at which the test holds, and i + n where it holds at none
 --     First             that a number is that one, without saying how it is found
 use Prim.Native.Nat.{ℕ, zero, suc, _+_, _≤_, _<_}
 use mathlib.Core.Path.{_≡_}
 use mathlib.Core.Bool.{Bool, true, false}
 use mathlib.Core.List.{List, [], _∷_, _++_}
+use lib.ListN.{drop}
 
 abbrev pub pick : {A : Type 0} → Bool → A → A → A
 pick true x y = x
@@ -20,6 +22,9 @@ sumTo (suc n) f = sumTo n f + f n
 abbrev pub upto : ℕ → (ℕ → ℕ) → List ℕ
 upto zero f = []
 upto (suc n) f = upto n f ++ (f n ∷ [])
+
+abbrev pub filled : ℕ → (ℕ → ℕ) → List ℕ → List ℕ
+filled n f old = upto n f ++ drop n old
 
 unfoldable pub first : (ℕ → Bool) → ℕ → ℕ → ℕ
 first test zero i = i

@@ -7,3 +7,4 @@ pub mod ListLaws
 pub mod BoundLaws
 pub mod PlaceLaws
 pub mod ReductionLaws
+pub mod Examples

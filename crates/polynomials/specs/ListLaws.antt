@@ -1,15 +1,16 @@
 -- Laws of lists as polynomials. Assumes nothing.
 --     lists-agree                          two lists are equal if they have one length and all coefficients agree
 --     coefficient-past                     zero past the end
+--     coefficient-zeros                    zeros at the high end change no coefficient
 --     length-LIST, coefficient-LIST        of a sum, a scaled list, a product, residues, each under that name
 --     product-row                          the first factor's lowest coefficient apart
 use Prim.Native.Nat.{ℕ, zero, suc, _+_, _-_, _*_, _%_, _≤_, _<_, max}
 use mathlib.Core.Path.{_≡_, refl, sym, ap, _∙_}
-use mathlib.Core.List.{List, [], _∷_}
+use mathlib.Core.List.{List, [], _∷_, _++_}
 use native.Mathlib.Nat.{zero-add, add-zero, zero-mul, mul-zero, zero-mod, sub-zero, suc-sub-suc}
 use native.Mathlib.Decide.{decLt}
 use native.Mathlib.Omega.{arith}
-use lib.ListN.{length, List·getD-eq-default}
+use lib.ListN.{length, replicate, List·getD-eq-default}
 use lib.Seq.{ext-getD}
 use Rattle.polynomials.specs.Lists.{coefficient, sum, scaled, productLength, productAt, product, residues}
 use Rattle.polynomials.specs.IndexLaws.{length-upto, upto-at, upto-past, sum-zero, sum-front, sum-same}
@@ -19,6 +20,16 @@ lists-agree xs ys e h = ext-getD 0 xs ys e h
 
 pub coefficient-past : (xs : List ℕ) (j : ℕ) → length xs ≤ j → coefficient xs j ≡ 0
 coefficient-past xs j h = List·getD-eq-default xs 0 h
+
+zeros-at : (z j : ℕ) → coefficient (replicate z 0) j ≡ 0
+zeros-at zero j = refl
+zeros-at (suc z) zero = refl
+zeros-at (suc z) (suc j) = zeros-at z j
+
+pub coefficient-zeros : (xs : List ℕ) (z j : ℕ) → coefficient (xs ++ replicate z 0) j ≡ coefficient xs j
+coefficient-zeros [] z j = zeros-at z j
+coefficient-zeros (x ∷ xs) z zero = refl
+coefficient-zeros (x ∷ xs) z (suc j) = coefficient-zeros xs z j
 
 -- ---- sums
 

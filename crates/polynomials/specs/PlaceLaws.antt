@@ -2,30 +2,44 @@
 --     packed-agree                 lists whose coefficients agree pack to one number
 --     packed-sum, packed-scaled, packed-product, packed-sumOfProducts
 --                                  the packed number of a sum, .. is the sum, .. of the packed numbers
+--     packed-most                  smaller coefficients pack to a smaller number
 --     packed-snoc                  the highest place apart
+--     packed-turn, packed-part     packing from the highest place down: the turn from place i to the one below; a part is at most the whole
 --     field-packed, fields-packed  the fields of a packed list give it back
+--     fields-zeros                 and zeros in the places after it
 --     packed-fields                packing the fields of a number gives it back
+--     packed-fields-most           packing some of them gives no more
+--     field-next                   a place up: what stands from there on
 --     packed-top                   lower fields below q and the top one at most c: a number below (c + 1) q^m
 --     power-power                  place i of the base b^t starts at b^(i t)
-use Prim.Native.Nat.{ℕ, zero, suc, _+_, _*_, _/_, _%_, _^_, _≤_, _<_}
+use Prim.Native.Nat.{ℕ, zero, suc, _+_, _-_, _*_, _/_, _%_, _^_, _≤_, _<_, zero-le}
 use mathlib.Core.Path.{_≡_, refl, sym, _∙_}
 use mathlib.Core.List.{List, [], _∷_, _++_}
-use native.Mathlib.Nat.{zero-add, zero-mul, mul-zero, mul-one, mul-comm, mul-le-mul-left, mul-pos, suc-mul, pow-zero, pow-succ', zero-mod, zero-div, mod-one, div-one, mod-eq-of-lt, div-eq-of-lt, add-mul-div-left, add-mul-mod-self-left, div-div-eq-div-mul, one-le-pow}
+use native.Mathlib.Nat.{zero-add, zero-mul, mul-zero, mul-one, mul-comm, mul-le-mul-left, le-mul-of-pos-right, le-antisymm, mul-pos, suc-mul, pow-zero, pow-suc, pow-succ', zero-mod, mod-le, zero-div, mod-one, div-one, mod-eq-of-lt, div-eq-of-lt, add-mul-div-left, add-mul-mod-self-left, div-div-eq-div-mul, one-le-pow}
+use native.Mathlib.Numerals.{add-one}
 use native.Mathlib.Omega.{arith}
 use lib.Arith.{mod-mul}
-use lib.ListN.{length}
+use lib.ListN.{length, drop, replicate, length-append, length-replicate}
 use lib.Pow.{pow-add}
+use lib.Seq.{drop-cons}
 use Rattle.polynomials.specs.Indices.{upto}
 use Rattle.polynomials.specs.Lists.{coefficient, sum, scaled, product, Below, Pair, sumOfProducts}
 use Rattle.polynomials.specs.Places.{packed, field, fields, sumOfWords}
 use Rattle.polynomials.specs.IndexLaws.{length-upto, upto-at}
-use Rattle.polynomials.specs.ListLaws.{lists-agree, product-row}
+use Rattle.polynomials.specs.ListLaws.{lists-agree, coefficient-zeros, product-row}
 
 pub packed-agree : (q : ℕ) (xs ys : List ℕ) → ((j : ℕ) → coefficient xs j ≡ coefficient ys j) → packed q xs ≡ packed q ys
 packed-agree q [] [] h = refl
 packed-agree q [] (y ∷ ys) h = rw (← h 0, ← packed-agree q [] ys (λ j. h (suc j)), mul-zero)
 packed-agree q (x ∷ xs) [] h = rw (h 0, packed-agree q xs [] (λ j. h (suc j)), mul-zero)
 packed-agree q (x ∷ xs) (y ∷ ys) h = rw (h 0, packed-agree q xs ys (λ j. h (suc j)))
+
+pub packed-most : (q : ℕ) (xs ys : List ℕ) → ((j : ℕ) → coefficient xs j ≤ coefficient ys j) → packed q xs ≤ packed q ys
+packed-most q [] ys h = zero-le
+packed-most q (x ∷ xs) [] h =
+    let none : packed q (x ∷ xs) ≡ 0 = packed-agree q (x ∷ xs) [] (λ j. le-antisymm (h j) zero-le) in
+    omega arith
+packed-most q (x ∷ xs) (y ∷ ys) h = omega (arith, h 0, mul-le-mul-left q (packed-most q xs ys (λ j. h (suc j))))
 
 pub packed-sum : (q : ℕ) (xs ys : List ℕ) → packed q (sum xs ys) ≡ packed q xs + packed q ys
 packed-sum q [] ys = sym (zero-add (packed q ys))
@@ -52,6 +66,17 @@ pub packed-snoc : (q : ℕ) (xs : List ℕ) (x : ℕ) → packed q (xs ++ (x ∷
 packed-snoc q [] x = rw (pow-zero, mul-zero, mul-one) (omega arith)
 packed-snoc q (y ∷ xs) x = rw (packed-snoc q xs x, pow-succ') (omega arith)
 
+pub packed-part : (q : ℕ) → 0 < q → (xs : List ℕ) (i : ℕ) → packed q (drop i xs) ≤ packed q xs
+packed-part q hq xs zero = omega arith
+packed-part q hq [] (suc i) = omega arith
+packed-part q hq (x ∷ xs) (suc i) = omega (arith, packed-part q hq xs i, le-mul-of-pos-right (packed q xs) hq)
+
+pub packed-turn : (q : ℕ) (xs : List ℕ) (i w : ℕ) → 0 < i → i ≤ length xs → w ≡ packed q (drop i xs) → w * q + coefficient xs (i - 1) ≡ packed q (drop (i - 1) xs)
+packed-turn q xs i w h l e =
+    let above : suc (i - 1) ≡ i = omega arith in
+    let rest : packed q (drop (suc (i - 1)) xs) ≡ w = rw (above, e) in
+    rw (drop-cons xs (i - 1) 0 (omega arith), rest) (omega arith)
+
 -- ---- fields
 
 pub field-packed : (q : ℕ) (xs : List ℕ) → Below q xs → (i : ℕ) → field q (packed q xs) i ≡ coefficient xs i
@@ -67,6 +92,11 @@ fields-packed q xs h =
     lists-agree (fields q (length xs) (packed q xs)) xs (length-upto (length xs) (field q (packed q xs)))
     (λ j l. upto-at (length xs) (field q (packed q xs)) j (rw length-upto at l) ∙ field-packed q xs h j)
 
+pub fields-zeros : (q : ℕ) (xs : List ℕ) (z : ℕ) → Below q xs → fields q (length xs + z) (packed q xs) ≡ xs ++ replicate z 0
+fields-zeros q xs z h =
+    lists-agree (fields q (length xs + z) (packed q xs)) (xs ++ replicate z 0) (simp (length-upto, length-append, length-replicate))
+    (λ j l. upto-at (length xs + z) (field q (packed q xs)) j (rw length-upto at l) ∙ field-packed q xs h j ∙ sym (coefficient-zeros xs z j))
+
 packed-fields-mod : (q : ℕ) → 0 < q → (m r : ℕ) → packed q (fields q m r) ≡ r % q ^ m
 packed-fields-mod q hq zero r = rw (pow-zero, mod-one)
 packed-fields-mod q hq (suc m) r =
@@ -75,6 +105,12 @@ packed-fields-mod q hq (suc m) r =
 
 pub packed-fields : (q : ℕ) → 0 < q → (m r : ℕ) → r < q ^ m → packed q (fields q m r) ≡ r
 packed-fields q hq m r h = packed-fields-mod q hq m r ∙ mod-eq-of-lt h
+
+pub packed-fields-most : (q : ℕ) → 0 < q → (m r : ℕ) → packed q (fields q m r) ≤ r
+packed-fields-most q hq m r = rw (packed-fields-mod q hq m r) (mod-le r (q ^ m))
+
+pub field-next : (q r i : ℕ) → r / q ^ i / q ≡ r / q ^ (i + 1)
+field-next q r i = rw (add-one, pow-suc, div-div-eq-div-mul)
 
 -- ---- bounds
 

@@ -3,11 +3,21 @@
 --     minus-only                no other number does both
 --     reduced-shifted           m_i = (u_i - q u_(i + 1)) mod p
 --     reduced-last              the last m is the last u
-use Prim.Native.Nat.{ℕ, suc, _+_, _-_, _*_, _/_, _%_, _^_, _<_}
+--     reduced-divides           where p divides q, every m is the u
+--     quotient-place            the quotient by p at place i is the quotient by p of what stands from place i on
+--     shifted-quotient          document 003's algorithm 2: u_i from one division by p
+--     reduced-most              packing the m gives no more than the number
+--     field-reduced             and its fields are the m
+use Prim.Native.Nat.{ℕ, suc, _+_, _-_, _*_, _/_, _%_, _^_, _≤_, _<_, _∣_, zero-le}
 use mathlib.Core.Path.{_≡_, sym, ap, _∙_}
-use native.Mathlib.Nat.{mod-lt, mod-add-mod, mod-add-div, div-add-mod', add-mul-mod-self-right, suc-mul, pow-suc, pow-succ', div-div-eq-div-mul, div-lt-iff-lt-mul, mod-eq-of-lt, one-le-pow}
+use native.Mathlib.Nat.{mod-lt, mod-add-mod, mod-add-div, div-add-mod', add-mul-mod-self-right, suc-mul, pow-suc, pow-succ', div-div-eq-div-mul, div-lt-iff-lt-mul, mod-eq-of-lt, one-le-pow, mod-le, mod-def, mod-mod-of-dvd, mul-comm, le-trans, lt-of-le-of-lt}
+use native.Mathlib.Decide.{decLt}
 use native.Mathlib.Omega.{arith}
-use Rattle.polynomials.specs.Places.{shifted, reduced, minus}
+use Rattle.polynomials.specs.Indices.{upto}
+use Rattle.polynomials.specs.Lists.{coefficient}
+use Rattle.polynomials.specs.Places.{packed, field, fields, shifted, reduced, minus}
+use Rattle.polynomials.specs.IndexLaws.{upto-at, upto-past, upto-most}
+use Rattle.polynomials.specs.PlaceLaws.{packed-most, packed-fields-most, field-packed}
 
 mul-mod : (a b p : ℕ) → a * (b % p) % p ≡ a * b % p
 mul-mod a b p =
@@ -42,3 +52,33 @@ reduced-shifted p q r i h =
 
 pub reduced-last : (p q r i : ℕ) → 0 < q → r < q ^ suc i → reduced p q r i ≡ shifted p q r i
 reduced-last p q r i hq h = ap (λ (n : ℕ). n % p) (mod-eq-of-lt (div-lt-iff-lt-mul (one-le-pow i q hq) .1 (rw pow-succ' at h)))
+
+pub reduced-divides : (p q r i : ℕ) → p ∣ q → reduced p q r i ≡ shifted p q r i
+reduced-divides p q r i h = mod-mod-of-dvd p (r / q ^ i) h
+
+-- ---- one division for all places
+
+pub quotient-place : (p q r i : ℕ) → r / p / q ^ i ≡ r / q ^ i / p
+quotient-place p q r i = rw (div-div-eq-div-mul r p (q ^ i), mul-comm p (q ^ i), ← div-div-eq-div-mul)
+
+pub shifted-quotient : (p q r i : ℕ) → r / q ^ i - p * (r / p / q ^ i) ≡ shifted p q r i
+shifted-quotient p q r i = rw (quotient-place p q r i) (sym (mod-def (r / q ^ i) p))
+
+-- ---- the word of the m
+
+pub reduced-most : (p q m r : ℕ) → 0 < q → packed q (upto m (reduced p q r)) ≤ r
+reduced-most p q m r hq =
+    le-trans (packed-most q (upto m (reduced p q r)) (fields q m r) lower) (packed-fields-most q hq m r)
+  where
+    at : (j : ℕ) → Dec (j < m) → coefficient (upto m (reduced p q r)) j ≤ coefficient (fields q m r) j
+    at j (yes h) = rw (upto-at m (reduced p q r) j h, upto-at m (field q r) j h) (mod-le (field q r j) p)
+    at j (no h) = rw (upto-past m (reduced p q r) j (omega arith)) zero-le
+
+    lower : (j : ℕ) → coefficient (upto m (reduced p q r)) j ≤ coefficient (fields q m r) j
+    lower j = at j (decLt j m)
+
+pub field-reduced : (p q m r i : ℕ) → 0 < q → i < m → field q (packed q (upto m (reduced p q r))) i ≡ reduced p q r i
+field-reduced p q m r i hq h =
+    field-packed q (upto m (reduced p q r))
+    (λ j. lt-of-le-of-lt (le-trans (upto-most m (reduced p q r) j) (mod-le (field q r j) p)) (mod-lt (r / q ^ j) hq)) i
+    ∙ upto-at m (reduced p q r) i h
