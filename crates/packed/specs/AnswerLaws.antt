@@ -1,6 +1,7 @@
 -- Checks in order: what an answer tells of them. Assumes nothing.
 --     never                   a refusal is no value
 --     passed, passed-last     a value was answered, so this cause did not hold
+--     passed-first            a value was answered, so the checks before it refused nothing
 --     passed-over             another number was given, so this cause did not hold
 --     once                    an answer is fixed by its numbers: two that say the same are equal
 --     left-length             a lent list keeps its length
@@ -25,6 +26,10 @@ passed false number place a v e = (refl, e)
 pub passed-last : (cause : Bool) (number place : ℕ) → refuse cause number place ≡ fine → cause ≡ false
 passed-last true number place e = absurd (never number place tt e)
 passed-last false number place e = refl
+
+pub passed-first : {A : Type 0} (checks : Verdict) (a : Answer A) (v : A) → (checks andThen a) ≡ answered v → (checks ≡ fine) × (a ≡ answered v)
+passed-first (answered u) a v e = (refl, e)
+passed-first (refused number place) a v e = absurd (never number place v e)
 
 pub passed-over : {A : Type 0} (cause : Bool) (number place : ℕ) (a : Answer A) (n i : ℕ) → (number ≡ n → ⊥) → (refuse cause number place andThen a) ≡ refused n i
     → (cause ≡ false) × (a ≡ refused n i)

@@ -1,4 +1,4 @@
--- 8, an input coefficient of p or more. Definitions, and what passing the check says.
+-- The coefficients that a call is given: 8, and what packing takes of them. Definitions, and what passing the check says.
 --     tooLarge p xs i           coefficient i is p or more
 --     firstBad p xs             the first such index, and the length where there is none
 --     firstBadOfTwo p xs ys     the first list is searched first, and an index in the second has the first's length added
@@ -6,6 +6,9 @@
 --                               8 with that place, for one list and for two
 --     coefficient-check, coefficients-check
 --                               they pass exactly where every coefficient is below p
+--     taken p xs                what packing takes of a list: the list itself; takenOne p x, of one coefficient
+--     taken-length, taken-at, taken-below, taken-operand
+--                               it has the list's length; it is taken one by one; of a list below p it is the list, and so an operand
 use Prim.Native.Nat.{ℕ, _+_, _≤_, _<_}
 use mathlib.Core.Path.{_≡_, refl}
 use mathlib.Core.Bool.{Bool, true, false}
@@ -18,7 +21,7 @@ use lib.ListN.{length}
 use borrow.Author.Tests.{lt-leb, leb-false, le-ltb, ltb-true, ltb-false}
 use Rattle.polynomials.specs.Indices.{pick, first}
 use Rattle.polynomials.specs.IndexLaws.{first-is, first-only}
-use Rattle.polynomials.specs.Lists.{coefficient, Below}
+use Rattle.polynomials.specs.Lists.{coefficient, Below, Operand}
 use Rattle.polynomials.specs.ListLaws.{coefficient-past}
 use Rattle.packed.specs.Answers.{Verdict, fine, refuse}
 use Rattle.packed.specs.AnswerLaws.{passed-last}
@@ -69,3 +72,26 @@ coefficients-check p xs ys hp = (
   λ h. let good : ltb (firstBad p xs) (length xs) ≡ false = le-ltb (firstBad p xs) (length xs) (omega (arith, all-below p xs (h .0))) in
       rw (good, le-ltb (length xs + firstBad p ys) (length xs + length ys) (omega (arith, all-below p ys (h .1)))),
 )
+
+-- ---- what packing takes
+
+unfoldable pub takenOne : ℕ → ℕ → ℕ
+takenOne p x = x
+
+unfoldable pub taken : ℕ → List ℕ → List ℕ
+taken p xs = xs
+
+pub taken-length : (p : ℕ) (xs : List ℕ) → length (taken p xs) ≡ length xs
+unfolding taken
+taken-length p xs = refl
+
+pub taken-at : (p : ℕ) (xs : List ℕ) (i : ℕ) → coefficient (taken p xs) i ≡ takenOne p (coefficient xs i)
+unfolding taken takenOne
+taken-at p xs i = refl
+
+pub taken-below : (p : ℕ) (xs : List ℕ) → Below p xs → taken p xs ≡ xs
+unfolding taken
+taken-below p xs h = refl
+
+pub taken-operand : (p k : ℕ) (xs : List ℕ) → length xs ≤ k → Below p xs → Operand p k (taken p xs)
+taken-operand p k xs h b = record { size = rw taken-length h; below = rw (taken-below p xs b) b }

@@ -6,6 +6,9 @@ pub mod Choices
 pub mod AnswerLaws
 pub mod SettingLaws
 pub mod Coefficients
+pub mod SharedAnswers
+pub mod Places
+pub mod WordLaws
 pub mod Bounds
 pub mod ChoiceLaws
 pub mod Examples

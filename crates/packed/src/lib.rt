@@ -1,5 +1,7 @@
 // Polynomials with coefficients modulo p, packed into one 64-bit word, a coefficient to every t bits.
+pub mod answers;
 mod limits;
+pub mod places;
 pub mod refusals;
 pub mod setting;
 mod words;

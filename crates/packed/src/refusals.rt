@@ -1,4 +1,6 @@
 // Document 01's refusals under their names, each with its number. A cause that has no index of its own has the place 0.
+ghost use mathlib.Core.Path.{_≡_};
+
 pub struct Refusal {
     pub number: u64,
     pub place: u64,
@@ -38,3 +40,28 @@ pub const NONE: Refusal = Refusal {
     number: 7,
     place: 0,
 };
+
+pub const SHAPE: Refusal = Refusal {
+    number: 9,
+    place: 0,
+};
+
+pub const SHORT: Refusal = Refusal {
+    number: 10,
+    place: 0,
+};
+
+pub const WORD: Refusal = Refusal {
+    number: 11,
+    place: 0,
+};
+
+// 8 Coefficient, at the first bad index.
+pub(crate) fn coefficient(place: usize) -> Refusal
+    ensures { λ r. ⌜ (r .number ≡ 8) × (r .place ≡ place) ⌝ }
+{
+    Refusal {
+        number: 8,
+        place: place as u64,
+    }
+}

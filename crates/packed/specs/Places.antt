@@ -1,0 +1,84 @@
+-- "Pack", "Unpack", "Shifted residues" and "Reduce", each with its checks in order. A word has 2k-1 places.
+--     shapeCause k xs             9 Shape: not exactly k coefficients
+--     wordCause s w               11 Word: a word >= 2^((2k-1)t)
+--     wordChecks s w              the setting's checks, then 11
+--     placesChecks s w len        these, then 10: a list of len elements is lent for an element a place
+--     packAnswer s xs             the setting's checks, 9, 8; then the word, the sum of a_i q^i
+--     Packs s xs r                the promise of pack
+--     Unpacks s w old r after     of unpack: the 2k-1 fields below q
+--     ShiftedResidues s w old r after
+--                                 of shifted residues: u_i = floor(w / q^i) mod p, i from 0 to 2k-2
+--     reduceAnswer s w            the setting's checks, 11; then the word whose field i is m_i, the old field modulo p
+--     Reduces s w r               the promise of reduce
+--     pack-once, unpack-once, shifted-residues-once, reduce-once
+--                                 each promise allows one answer, and one list, only
+use Prim.Native.Nat.{ℕ, _^_}
+use mathlib.Core.Path.{_≡_}
+use mathlib.Core.Bool.{Bool, not}
+use mathlib.Core.List.{List}
+use lib.Dec.{leb, eqb}
+use lib.ListN.{length}
+use Rattle.polynomials.specs.Indices.{upto}
+use Rattle.polynomials.specs.Places.{packed, fields, shifted, reduced}
+use Rattle.packed.specs.Answers.{Answer, answered, Verdict, refuse, _andThen_}
+use Rattle.packed.specs.SharedAnswers.{wordSays, word-once, shortCause, Writes, writes-once}
+use Rattle.packed.specs.Settings.{settingChecks, base, places, spanOf}
+use Rattle.packed.specs.Coefficients.{taken, coefficientCheck}
+use Rattle.packed.specs.declared.setting.Setting.{Setting}
+use Rattle.packed.specs.declared.answers.Packed.{Packed}
+use Rattle.packed.specs.declared.answers.Wrote.{Wrote}
+
+abbrev pub shapeCause : ℕ → List ℕ → Bool
+shapeCause k xs = not (eqb (length xs) k)
+
+abbrev pub wordCause : Setting → ℕ → Bool
+wordCause s w = leb (2 ^ spanOf s) w
+
+unfoldable pub wordChecks : Setting → ℕ → Verdict
+wordChecks s w = settingChecks s andThen refuse (wordCause s w) 11 0
+
+unfoldable pub placesChecks : Setting → ℕ → ℕ → Verdict
+placesChecks s w len = wordChecks s w andThen refuse (shortCause (places s) len) 10 0
+
+-- ---- pack
+
+unfoldable pub packAnswer : Setting → List ℕ → Answer ℕ
+packAnswer s xs =
+    settingChecks s
+    andThen refuse (shapeCause (s .k) xs) 9 0
+    andThen coefficientCheck (s .p) xs
+    andThen answered (packed (base s) (taken (s .p) xs))
+
+abbrev pub Packs : Setting → List ℕ → Packed → Type 0
+Packs s xs r = wordSays r ≡ packAnswer s xs
+
+pub pack-once : (s : Setting) (xs : List ℕ) (a b : Packed) → Packs s xs a → Packs s xs b → a ≡ b
+pack-once s xs a b = word-once a b (packAnswer s xs)
+
+-- ---- unpack
+
+abbrev pub Unpacks : Setting → ℕ → List ℕ → Wrote → List ℕ → Type 0
+Unpacks s w old r after = Writes (placesChecks s w (length old)) (fields (base s) (places s) w) old r after
+
+pub unpack-once : (s : Setting) (w : ℕ) (old : List ℕ) (a b : Wrote) (x y : List ℕ) → Unpacks s w old a x → Unpacks s w old b y → (a ≡ b) × (x ≡ y)
+unpack-once s w old = writes-once (placesChecks s w (length old)) (fields (base s) (places s) w) old
+
+-- ---- shifted residues
+
+abbrev pub ShiftedResidues : Setting → ℕ → List ℕ → Wrote → List ℕ → Type 0
+ShiftedResidues s w old r after = Writes (placesChecks s w (length old)) (upto (places s) (shifted (s .p) (base s) w)) old r after
+
+pub shifted-residues-once : (s : Setting) (w : ℕ) (old : List ℕ) (a b : Wrote) (x y : List ℕ) → ShiftedResidues s w old a x → ShiftedResidues s w old b y
+    → (a ≡ b) × (x ≡ y)
+shifted-residues-once s w old = writes-once (placesChecks s w (length old)) (upto (places s) (shifted (s .p) (base s) w)) old
+
+-- ---- reduce
+
+unfoldable pub reduceAnswer : Setting → ℕ → Answer ℕ
+reduceAnswer s w = wordChecks s w andThen answered (packed (base s) (upto (places s) (reduced (s .p) (base s) w)))
+
+abbrev pub Reduces : Setting → ℕ → Packed → Type 0
+Reduces s w r = wordSays r ≡ reduceAnswer s w
+
+pub reduce-once : (s : Setting) (w : ℕ) (a b : Packed) → Reduces s w a → Reduces s w b → a ≡ b
+reduce-once s w a b = word-once a b (reduceAnswer s w)

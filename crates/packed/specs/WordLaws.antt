@@ -1,0 +1,57 @@
+-- Words that 11 takes. Assumes nothing.
+--     span-power       2^((2k-1)t) is q^(2k-1)
+--     word-top         11, told by what stands from the last place on
+--     word-below       a word that 11 takes is below q^(2k-1)
+--     word-checked     where nothing is refused up to 11, the setting is accepted and 11 takes the word
+--     places-checked   and up to 10, the list lent is long enough too
+use Prim.Native.Nat.{ℕ, suc, _-_, _*_, _/_, _^_, _≤_, _<_}
+use mathlib.Core.Path.{_≡_, sym}
+use mathlib.Core.Bool.{false}
+use mathlib.Core.Logic.{_↔_}
+use native.Mathlib.Nat.{lt-of-not-le}
+use native.Mathlib.Decide.{decLe}
+use native.Mathlib.Omega.{arith}
+use lib.Dec.{leb}
+use lib.Pow.{pow-pos}
+use borrow.Author.Tests.{le-leb, lt-leb, leb-false, ltb-false}
+use Rattle.polynomials.specs.PlaceLaws.{top-place, power-power}
+use Rattle.packed.specs.Answers.{fine, refuse}
+use Rattle.packed.specs.AnswerLaws.{passed-first, passed-last}
+use Rattle.packed.specs.SharedAnswers.{shortCause}
+use Rattle.packed.specs.Settings.{settingChecks, base, places, spanOf}
+use Rattle.packed.specs.Places.{wordCause, wordChecks, placesChecks}
+use Rattle.packed.specs.declared.setting.Setting.{Setting}
+
+pub span-power : (s : Setting) → 2 ^ spanOf s ≡ base s ^ places s
+span-power s = sym (power-power 2 (s .t) (places s))
+
+pub word-top : (s : Setting) (w : ℕ) → 1 ≤ s .k → wordCause s w ≡ leb (base s) (w / 2 ^ ((2 * s .k - 2) * s .t))
+word-top s w h = rw (span-power s, ← power-power 2 (s .t) m, last) (go (decLe (base s ^ suc m) w))
+  where
+    m : ℕ
+    m = 2 * s .k - 2
+
+    last : 2 * s .k - 1 ≡ suc m
+    last = omega arith
+
+    reach : (base s ^ suc m ≤ w) ↔ (base s ≤ w / base s ^ m)
+    reach = top-place (base s) m w (pow-pos (s .t))
+
+    go : Dec (base s ^ suc m ≤ w) → leb (base s ^ suc m) w ≡ leb (base s) (w / base s ^ m)
+    go (yes l) = rw (le-leb (base s ^ suc m) w l, le-leb (base s) (w / base s ^ m) (reach .0 l))
+    go (no l) = rw (lt-leb (base s ^ suc m) w (omega arith), lt-leb (base s) (w / base s ^ m) (lt-of-not-le (λ g. l (reach .1 g))))
+
+pub word-below : (s : Setting) (w : ℕ) → wordCause s w ≡ false → w < base s ^ places s
+word-below s w e = rw (span-power s) at (leb-false (2 ^ spanOf s) w e)
+
+pub word-checked : (s : Setting) (w : ℕ) → wordChecks s w ≡ fine → (settingChecks s ≡ fine) × (wordCause s w ≡ false)
+unfolding wordChecks
+word-checked s w e =
+    let a = passed-first (settingChecks s) (refuse (wordCause s w) 11 0) tt e in
+    (a .0, passed-last (wordCause s w) 11 0 (a .1))
+
+pub places-checked : (s : Setting) (w len : ℕ) → placesChecks s w len ≡ fine → (wordChecks s w ≡ fine) × (places s ≤ len)
+unfolding placesChecks
+places-checked s w len e =
+    let a = passed-first (wordChecks s w) (refuse (shortCause (places s) len) 10 0) tt e in
+    (a .0, ltb-false len (places s) (passed-last (shortCause (places s) len) 10 0 (a .1)))

@@ -1,0 +1,97 @@
+// A word and its places: pack, unpack, shifted residues, reduce. A word has 2k-1 places, as many as a product has coefficients.
+ghost use mathlib.Core.Path.{_≡_};
+ghost use Rattle.packed.specs.Settings.{checkedSays};
+ghost use Rattle.packed.specs.Places.{wordChecks, placesChecks, Packs, Unpacks, ShiftedResidues, Reduces};
+use crate::answers::Packed;
+use crate::answers::Wrote;
+use crate::refusals;
+use crate::setting::Checked;
+use crate::setting::Setting;
+use crate::setting::check;
+use crate::words::first_bad;
+use crate::words::pack_taken;
+use crate::words::places;
+use crate::words::reduce_fields;
+use crate::words::split_fields;
+use crate::words::split_shifted;
+use crate::words::word_cause;
+
+// Exactly k coefficients: 9, 8. The word is the sum of a_i q^i.
+pub fn pack(s: Setting, coefficients: &[u16]) -> Packed
+    ensures { λ r. ⌜ Packs s (now (coefficients .entry)) r ⌝ }
+{
+    if let Checked::Refused(r) = check(s) {
+        return Packed::Refused(r);
+    }
+    if coefficients.len() as u64 != s.k {
+        return Packed::Refused(refusals::SHAPE);
+    }
+    let bad = first_bad(s.p, coefficients);
+    if bad < coefficients.len() {
+        return Packed::Refused(refusals::coefficient(bad));
+    }
+    let word = pack_taken(s.p, s.t, coefficients);
+    Packed::Word(word)
+}
+
+// The 2k-1 fields of a word, each below q: 11, 10.
+pub fn unpack(s: Setting, word: u64, out: &mut [u64]) -> Wrote
+    ensures { λ r. ⌜ Unpacks s word (now (out .entry)) r (now (out .exit)) ⌝ }
+{
+    if let Checked::Refused(r) = check_places(s, word, out.len()) {
+        return Wrote::Refused(r);
+    }
+    let m = places(s.k);
+    split_fields(s.t, m, word, out);
+    Wrote::Count(m)
+}
+
+// u_i = floor(word / q^i) mod p, for each of the 2k-1 places: 11, 10.
+pub fn shifted_residues(s: Setting, word: u64, out: &mut [u16]) -> Wrote
+    ensures { λ r. ⌜ ShiftedResidues s word (now (out .entry)) r (now (out .exit)) ⌝ }
+{
+    if let Checked::Refused(r) = check_places(s, word, out.len()) {
+        return Wrote::Refused(r);
+    }
+    let m = places(s.k);
+    split_shifted(s.p, s.t, m, word, out);
+    Wrote::Count(m)
+}
+
+// The word whose fields are the old ones modulo p: 11.
+pub fn reduce(s: Setting, word: u64) -> Packed
+    ensures { λ r. ⌜ Reduces s word r ⌝ }
+{
+    if let Checked::Refused(r) = check_word(s, word) {
+        return Packed::Refused(r);
+    }
+    let m = places(s.k);
+    let reduced = reduce_fields(s.p, s.t, m, word);
+    Packed::Word(reduced)
+}
+
+// The setting's checks, then 11.
+fn check_word(s: Setting, word: u64) -> Checked
+    ensures { λ r. ⌜ checkedSays r ≡ wordChecks s word ⌝ }
+{
+    if let Checked::Refused(r) = check(s) {
+        return Checked::Refused(r);
+    }
+    if word_cause(s, word) {
+        return Checked::Refused(refusals::WORD);
+    }
+    Checked::Accepted
+}
+
+// These, then 10, where a list of len elements is lent for the places.
+fn check_places(s: Setting, word: u64, len: usize) -> Checked
+    ensures { λ r. ⌜ checkedSays r ≡ placesChecks s word len ⌝ }
+{
+    if let Checked::Refused(r) = check_word(s, word) {
+        return Checked::Refused(r);
+    }
+    if len < places(s.k) {
+        return Checked::Refused(refusals::SHORT);
+    }
+    Checked::Accepted
+}
