@@ -1,40 +1,81 @@
 -- The starred examples of document 01, as one table: what the definitions give, beside what the document prints.
 --     Row                a row of the table, both sides in numbers
---     width, none        what the document prints of Choose: a width; "None", which is refusal 7
+--     value, none        what the document prints: a width or a word; "None", which is refusal 7
+--     written            what it prints of a call that fills a list of three: the list
 --     starred            the table
 --     starred-agree      every row's two sides are the same, by computing the left ones
-use Prim.Native.Nat.{ℕ}
+use Prim.Native.Nat.{ℕ, _*_}
 use mathlib.Core.Path.{_≡_, refl}
 use mathlib.Core.List.{List, [], _∷_, map}
-use Rattle.polynomials.specs.Indices.{first}
-use Rattle.packed.specs.Answers.{numbers}
-use Rattle.packed.specs.Choices.{escapes, smallestWidth, noneCause, chooseAnswer}
+use Rattle.polynomials.specs.Indices.{upto, first}
+use Rattle.polynomials.specs.Places.{fields, shifted}
+use Rattle.packed.specs.Answers.{Answer, numbers, wrote, leftBy}
+use Rattle.packed.specs.Settings.{base, places, settingChecks}
+use Rattle.packed.specs.Choices.{settingOf, escapes, smallestWidth, noneCause, chooseAnswer}
+use Rattle.packed.specs.Coefficients.{taken}
+use Rattle.packed.specs.Places.{wordChecks, placesChecks, packAnswer, reduceAnswer}
+use Rattle.packed.specs.declared.setting.Setting.{Setting}
 
 pub record Row : Type 0 where
   pub gives : List ℕ
   pub prints : List ℕ
 
-choosing : ℕ → ℕ → ℕ → List ℕ → Row
-choosing p k n prints = record { gives = numbers (λ t. t ∷ []) (chooseAnswer p k n); prints = prints }
-
-width : ℕ → List ℕ
-width t = 0 ∷ 0 ∷ t ∷ []
+value : ℕ → List ℕ
+value v = 0 ∷ 0 ∷ v ∷ []
 
 none : List ℕ
 none = 7 ∷ 0 ∷ []
 
+written : List ℕ → List ℕ
+written vs = 0 ∷ 0 ∷ 3 ∷ vs
+
+answering : Answer ℕ → List ℕ → Row
+answering a prints = record { gives = numbers (λ v. v ∷ []) a; prints = prints }
+
+choosing : ℕ → ℕ → ℕ → List ℕ → Row
+choosing p k n prints = answering (chooseAnswer p k n) prints
+
+-- p = 3, k = 2, t = 4
+small : Setting
+small = settingOf 3 2 4 1
+
+packing : List ℕ → List ℕ → Row
+packing xs prints = answering (packAnswer small xs) prints
+
+reducing : ℕ → List ℕ → Row
+reducing w prints = answering (reduceAnswer small w) prints
+
+-- new elements for the word's places, into a list of three
+writing : ℕ → List ℕ → List ℕ → Row
+writing w new prints =
+    let checks = placesChecks small w 3 in
+    record { gives = numbers (λ m. m ∷ leftBy checks new (9 ∷ 9 ∷ 9 ∷ [])) (wrote checks new); prints = prints }
+
+unpacking : ℕ → List ℕ → Row
+unpacking w prints = writing w (fields (base small) (places small) w) prints
+
+shifting : ℕ → List ℕ → Row
+shifting w prints = writing w (upto (places small) (shifted (small .p) (base small) w)) prints
+
 pub starred : List Row
 starred =
-    choosing 3 4 31 (width 9)
+    choosing 3 4 31 (value 9)
     ∷ choosing 3 4 32 none
-    ∷ choosing 929 2 1 (width 21)
+    ∷ choosing 929 2 1 (value 21)
     ∷ choosing 929 2 2 none
-    ∷ choosing 2 8 1 (width 4)
+    ∷ choosing 2 8 1 (value 4)
     ∷ choosing 2 8 2 none
-    ∷ choosing 37 3 1 (width 12)
+    ∷ choosing 37 3 1 (value 12)
     ∷ choosing 38 3 1 none
+    ∷ packing (1 ∷ 2 ∷ []) (value 33)
+    ∷ packing (2 ∷ 2 ∷ []) (value 34)
+    ∷ record { gives = 33 * 34 ∷ []; prints = 1122 ∷ [] }
+    ∷ unpacking 1122 (written (2 ∷ 6 ∷ 4 ∷ []))
+    ∷ shifting 1122 (written (0 ∷ 1 ∷ 1 ∷ []))
+    ∷ reducing 1122 (value 258)
+    ∷ unpacking 258 (written (2 ∷ 0 ∷ 1 ∷ []))
     ∷ []
 
 pub starred-agree : map (λ (r : Row). r .gives) starred ≡ map (λ (r : Row). r .prints) starred
-unfolding starred choosing width none chooseAnswer noneCause smallestWidth escapes first
+unfolding starred value none written answering choosing small packing reducing writing unpacking shifting chooseAnswer noneCause smallestWidth escapes first settingChecks wordChecks placesChecks packAnswer reduceAnswer taken
 starred-agree = refl

@@ -11,4 +11,6 @@ pub mod Places
 pub mod WordLaws
 pub mod Bounds
 pub mod ChoiceLaws
+pub mod RoundTrips
+pub mod ReduceLaws
 pub mod Examples

@@ -1,5 +1,6 @@
 -- Laws of places in a base q, any base. Assumes nothing; bounds are asked of the fields and of the number.
 --     packed-agree                 lists whose coefficients agree pack to one number
+--     packed-zeros                 as a list and the same list with zeros at its high end
 --     packed-sum, packed-scaled, packed-product, packed-sumOfProducts
 --                                  the packed number of a sum, .. is the sum, .. of the packed numbers
 --     packed-most                  smaller coefficients pack to a smaller number
@@ -10,6 +11,7 @@
 --     packed-fields                packing the fields of a number gives it back
 --     packed-fields-most           packing some of them gives no more
 --     field-next                   a place up: what stands from there on
+--     packed-below                 fields below q: a number below q^m, for m of them
 --     packed-top                   lower fields below q and the top one at most c: a number below (c + 1) q^m
 --     top-place                    a number reaches q^(m+1) exactly where what stands from place m on reaches q
 --     power-power                  place i of the base b^t starts at b^(i t)
@@ -35,6 +37,9 @@ packed-agree q [] [] h = refl
 packed-agree q [] (y ∷ ys) h = rw (← h 0, ← packed-agree q [] ys (λ j. h (suc j)), mul-zero)
 packed-agree q (x ∷ xs) [] h = rw (h 0, packed-agree q xs [] (λ j. h (suc j)), mul-zero)
 packed-agree q (x ∷ xs) (y ∷ ys) h = rw (h 0, packed-agree q xs ys (λ j. h (suc j)))
+
+pub packed-zeros : (q : ℕ) (xs : List ℕ) (z : ℕ) → packed q (xs ++ replicate z 0) ≡ packed q xs
+packed-zeros q xs z = packed-agree q (xs ++ replicate z 0) xs (coefficient-zeros xs z)
 
 pub packed-most : (q : ℕ) (xs ys : List ℕ) → ((j : ℕ) → coefficient xs j ≤ coefficient ys j) → packed q xs ≤ packed q ys
 packed-most q [] ys h = zero-le
@@ -115,6 +120,10 @@ pub field-next : (q r i : ℕ) → r / q ^ i / q ≡ r / q ^ (i + 1)
 field-next q r i = rw (add-one, pow-suc, div-div-eq-div-mul)
 
 -- ---- bounds
+
+pub packed-below : (q : ℕ) (xs : List ℕ) → Below q xs → packed q xs < q ^ length xs
+packed-below q [] h = rw pow-zero (omega arith)
+packed-below q (x ∷ xs) h = rw pow-succ' (omega (arith, mul-le-mul-left q (packed-below q xs (λ j. h (suc j))), h 0))
 
 pub packed-top : (q c m : ℕ) (xs : List ℕ) → ((j : ℕ) → j < m → coefficient xs j < q) → coefficient xs m ≤ c → ((j : ℕ) → m < j → coefficient xs j ≡ 0)
     → packed q xs < (c + 1) * q ^ m
