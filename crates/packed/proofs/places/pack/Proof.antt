@@ -8,7 +8,7 @@ use borrow.Author.Needs.{needs}
 use borrow.Author.Tests.{eq-eqb, ne-eqb, lt-ltb, le-ltb}
 use denote.Ref.{now}
 use Rattle.polynomials.specs.Lists.{Below}
-use Rattle.packed.specs.Answers.{fine}
+use Rattle.packed.specs.Answers.{answered, fine}
 use Rattle.packed.specs.Settings.{settingChecks, checkedSays}
 use Rattle.packed.specs.Coefficients.{taken, taken-operand, coefficient-check}
 use Rattle.packed.specs.Places.{packAnswer}
@@ -71,7 +71,8 @@ returns-4 : tie.Need-returns-4
 unfolding packAnswer
 returns-4 c =
     let a = c .before .before .before .before .before .before .before .before .before .args in
-    rw (accepted (c .before .before .before .before .before), eq-eqb (length (now (a .coefficients))) (a .s .k) (c .before .before .before .if1 .left), ← c .before .before .first-bad .ensures, le-ltb (c .before .before .first-bad .result) (length (now (a .coefficients))) (c .before .if2 .left), c .pack-taken .ensures)
+    ap answered (c .pack-taken .ensures)
+    ∙ sym (rw (accepted (c .before .before .before .before .before), eq-eqb (length (now (a .coefficients))) (a .s .k) (c .before .before .before .if1 .left), ← c .before .before .first-bad .ensures, le-ltb (c .before .before .first-bad .result) (length (now (a .coefficients))) (c .before .if2 .left)))
 
 pub pack-spec : {M : Type 1} → statement M
 pack-spec =

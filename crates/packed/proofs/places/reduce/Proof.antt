@@ -3,7 +3,7 @@ use Prim.Native.Nat.{_-_, _*_}
 use mathlib.Core.Path.{_≡_, sym, ap, _∙_}
 use native.Mathlib.Omega.{arith}
 use borrow.Author.Needs.{needs}
-use Rattle.packed.specs.Answers.{fine}
+use Rattle.packed.specs.Answers.{answered, fine}
 use Rattle.packed.specs.Settings.{checkedSays}
 use Rattle.packed.specs.Places.{wordChecks, reduceAnswer}
 use Rattle.packed.specs.WordLaws.{word-checked}
@@ -46,7 +46,8 @@ reduce-fields-requires c κs =
 
 returns-2 : tie.Need-returns-2
 unfolding reduceAnswer
-returns-2 c = rw (passed (c .before .before), c .reduce-fields .ensures, c .before .places .ensures)
+returns-2 c =
+    ap answered (c .reduce-fields .ensures) ∙ sym (rw (passed (c .before .before), ← c .before .places .ensures))
 
 pub reduce-spec : {M : Type 1} → statement M
 reduce-spec =

@@ -1,7 +1,7 @@
 -- `split_fields` meets its contract: after i turns the first i fields stand, and the rest of the word is what stands from place i on.
 -- Assumes nothing.
-use Prim.Native.Nat.{_-_, _/_, _%_, _^_, _≤_}
-use mathlib.Core.Path.{_≡_, refl}
+use Prim.Native.Nat.{ℕ, _-_, _/_, _%_, _^_, _≤_}
+use mathlib.Core.Path.{_≡_, refl, ap, _∙_}
 use native.Mathlib.Nat.{pow-zero, div-one}
 use native.Mathlib.Omega.{arith}
 use lib.ListN.{length, length-set}
@@ -52,7 +52,7 @@ loop-again c =
       omega arith,
       filled-more (field (2 ^ a .t) (a .word)) (a .out .now) (l .out) (l .i) (l .rest % c .before .before .power .result) (omega arith) (l .inv .1) (rw (l .inv .3, c .before .before .power .ensures)),
       simp length-set (l .inv .2),
-      rw (l .inv .3, field-next (2 ^ a .t) (a .word) (l .i)),
+      ap (λ (n : ℕ). n / 2 ^ a .t) (l .inv .3) ∙ field-next (2 ^ a .t) (a .word) (l .i),
     )
 
 same-length : tie.Need-same-length Inv-loop μ-loop

@@ -1,6 +1,6 @@
 -- `split_shifted` meets its contract: rest and quotient are word and quotient from place i on. Assumes nothing.
-use Prim.Native.Nat.{_-_, _*_, _/_, _^_, _≤_}
-use mathlib.Core.Path.{_≡_, refl}
+use Prim.Native.Nat.{ℕ, _-_, _*_, _/_, _^_, _≤_}
+use mathlib.Core.Path.{_≡_, refl, ap, _∙_}
 use native.Mathlib.Nat.{pow-zero, div-one, div-le-self, mul-div-le, mod-lt, lt-of-lt-of-le}
 use native.Mathlib.Omega.{arith}
 use lib.ListN.{length, length-set}
@@ -78,8 +78,8 @@ loop-again c =
       omega arith,
       filled-more (shifted (a .p) (2 ^ a .t) (a .word)) (a .out .now) (l .out) (l .i) (l .rest - a .p * l .quotient) (omega arith) (l .inv .1) (written c),
       simp length-set (l .inv .2),
-      rw (l .inv .3, field-next (2 ^ a .t) (a .word) (l .i)),
-      rw (l .inv .4, field-next (2 ^ a .t) (a .word / a .p) (l .i)),
+      ap (λ (n : ℕ). n / 2 ^ a .t) (l .inv .3) ∙ field-next (2 ^ a .t) (a .word) (l .i),
+      ap (λ (n : ℕ). n / 2 ^ a .t) (l .inv .4) ∙ field-next (2 ^ a .t) (a .word / a .p) (l .i),
     )
 
 same-length : tie.Need-same-length Inv-loop μ-loop
