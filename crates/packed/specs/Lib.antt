@@ -8,8 +8,8 @@ pub mod SettingLaws
 pub mod Coefficients
 pub mod SharedAnswers
 pub mod Places
-pub mod WordLaws
 pub mod Bounds
+pub mod WordLaws
 pub mod ChoiceLaws
 pub mod RoundTrips
 pub mod ReduceLaws

@@ -15,21 +15,19 @@ use Rattle.polynomials.specs.IndexLaws.{length-upto, upto-at}
 use Rattle.polynomials.specs.Lists.{coefficient}
 use Rattle.polynomials.specs.Places.{packed, field, shifted, reduced, minus}
 use Rattle.polynomials.specs.ReductionLaws.{field-reduced, reduced-shifted, reduced-last, reduced-divides}
-use Rattle.packed.specs.Answers.{fine}
 use Rattle.packed.specs.AnswerLaws.{passed-first}
-use Rattle.packed.specs.Settings.{settingChecks, base, places}
+use Rattle.packed.specs.Settings.{base, places}
 use Rattle.packed.specs.Places.{wordChecks, placesChecks, ShiftedResidues, reduceAnswer, Reduces}
-use Rattle.packed.specs.WordLaws.{word-below, word-checked}
-use Rattle.packed.specs.Bounds.{bounds}
+use Rattle.packed.specs.WordLaws.{WordFits, word-checked}
 use Rattle.packed.specs.declared.setting.Setting.{Setting}
 use Rattle.packed.specs.declared.answers.Packed.the-variants.{Word}
 use Rattle.packed.specs.declared.answers.Wrote.the-variants.{Count}
 
-pub reduce-checked : (s : Setting) (w v : ℕ) → Reduces s w (Word v) → (wordChecks s w ≡ fine) × (v ≡ packed (base s) (upto (places s) (reduced (s .p) (base s) w)))
+pub reduce-checked : (s : Setting) (w v : ℕ) → Reduces s w (Word v) → WordFits s w × (v ≡ packed (base s) (upto (places s) (reduced (s .p) (base s) w)))
 unfolding reduceAnswer
 reduce-checked s w v e =
     let a = passed-first (wordChecks s w) _ v (sym e) in
-    (a .0, cc (a .1))
+    (word-checked s w (a .0), cc (a .1))
 
 pub reduce-field : (s : Setting) (w v i : ℕ) → Reduces s w (Word v) → i < places s → field (base s) v i ≡ reduced (s .p) (base s) w i
 reduce-field s w v i e h = rw (reduce-checked s w v e .1) (field-reduced (s .p) (base s) (places s) w i (pow-pos (s .t)) h)
@@ -46,19 +44,19 @@ module _ (s : Setting) (w v m : ℕ) (old us : List ℕ) (reduces : Reduces s w 
   u-at : (i : ℕ) → i < places s → coefficient us i ≡ shifted (s .p) (base s) w i
   u-at i h = shifted-at s w m i old us shifts h
 
-  accepted : settingChecks s ≡ fine
-  accepted = word-checked s w (reduce-checked s w v reduces .0) .0
+  fits : WordFits s w
+  fits = reduce-checked s w v reduces .0
 
   pub reduce-identity : (i : ℕ) → suc i < places s → field (base s) v i ≡ minus (s .p) (coefficient us i) (base s * coefficient us (suc i))
   reduce-identity i h =
       reduce-field s w v i reduces (omega arith)
-      ∙ reduced-shifted (s .p) (base s) w i (omega (arith, bounds s accepted .range .choice .p-low))
+      ∙ reduced-shifted (s .p) (base s) w i (omega (arith, fits .bounded .range .choice .p-low))
       ∙ rw (u-at i (omega arith), u-at (suc i) h)
 
   pub reduce-last : field (base s) v (2 * s .k - 2) ≡ coefficient us (2 * s .k - 2)
   reduce-last =
-      let last : suc (2 * s .k - 2) ≡ places s = omega (arith, bounds s accepted .range .choice .k-low) in
-      let below : w < base s ^ suc (2 * s .k - 2) = rw last (word-below s w (word-checked s w (reduce-checked s w v reduces .0) .1)) in
+      let last : suc (2 * s .k - 2) ≡ places s = omega (arith, fits .bounded .range .choice .k-low) in
+      let below : w < base s ^ suc (2 * s .k - 2) = rw last (fits .below) in
       reduce-field s w v (2 * s .k - 2) reduces (omega arith) ∙ reduced-last (s .p) (base s) w (2 * s .k - 2) (pow-pos (s .t)) below ∙ sym (u-at (2 * s .k - 2) (omega arith))
 
   pub reduce-divides : s .p ∣ base s → (i : ℕ) → i < places s → field (base s) v i ≡ coefficient us i

@@ -1,12 +1,11 @@
 -- Words that 11 takes. Assumes nothing.
 --     span-power       2^((2k-1)t) is q^(2k-1)
 --     word-top         11, told by what stands from the last place on
---     word-below       a word that 11 takes is below q^(2k-1)
---     word-checked     where nothing is refused up to 11, the setting is accepted and 11 takes the word
---     places-checked   and up to 10, the list lent is long enough too
+--     WordFits s w     the setting has its bounds, and the word is below q^(2k-1)
+--     word-checked     so it is where nothing is refused up to 11
+--     places-checked   and up to 10, where the list lent is long enough too
 use Prim.Native.Nat.{ℕ, suc, _-_, _*_, _/_, _^_, _≤_, _<_}
 use mathlib.Core.Path.{_≡_, sym}
-use mathlib.Core.Bool.{false}
 use mathlib.Core.Logic.{_↔_}
 use native.Mathlib.Nat.{lt-of-not-le}
 use native.Mathlib.Decide.{decLe}
@@ -20,6 +19,7 @@ use Rattle.packed.specs.AnswerLaws.{passed-first, passed-last}
 use Rattle.packed.specs.SharedAnswers.{shortCause}
 use Rattle.packed.specs.Settings.{settingChecks, base, places, spanOf}
 use Rattle.packed.specs.Places.{wordCause, wordChecks, placesChecks}
+use Rattle.packed.specs.Bounds.{Bounds, bounds}
 use Rattle.packed.specs.declared.setting.Setting.{Setting}
 
 pub span-power : (s : Setting) → 2 ^ spanOf s ≡ base s ^ places s
@@ -41,17 +41,18 @@ word-top s w h = rw (span-power s, ← power-power 2 (s .t) m, last) (go (decLe 
     go (yes l) = rw (le-leb (base s ^ suc m) w l, le-leb (base s) (w / base s ^ m) (reach .0 l))
     go (no l) = rw (lt-leb (base s ^ suc m) w (omega arith), lt-leb (base s) (w / base s ^ m) (lt-of-not-le (λ g. l (reach .1 g))))
 
-pub word-below : (s : Setting) (w : ℕ) → wordCause s w ≡ false → w < base s ^ places s
-word-below s w e = rw (span-power s) at (leb-false (2 ^ spanOf s) w e)
+pub record WordFits (s : Setting) (w : ℕ) : Type 0 where
+  pub bounded : Bounds s
+  pub below : w < base s ^ places s
 
-pub word-checked : (s : Setting) (w : ℕ) → wordChecks s w ≡ fine → (settingChecks s ≡ fine) × (wordCause s w ≡ false)
+pub word-checked : (s : Setting) (w : ℕ) → wordChecks s w ≡ fine → WordFits s w
 unfolding wordChecks
 word-checked s w e =
     let a = passed-first (settingChecks s) (refuse (wordCause s w) 11 0) tt e in
-    (a .0, passed-last (wordCause s w) 11 0 (a .1))
+    record { bounded = bounds s (a .0); below = rw (span-power s) at (leb-false (2 ^ spanOf s) w (passed-last (wordCause s w) 11 0 (a .1))) }
 
-pub places-checked : (s : Setting) (w len : ℕ) → placesChecks s w len ≡ fine → (wordChecks s w ≡ fine) × (places s ≤ len)
+pub places-checked : (s : Setting) (w len : ℕ) → placesChecks s w len ≡ fine → WordFits s w × (places s ≤ len)
 unfolding placesChecks
 places-checked s w len e =
     let a = passed-first (wordChecks s w) (refuse (shortCause (places s) len) 10 0) tt e in
-    (a .0, ltb-false len (places s) (passed-last (shortCause (places s) len) 10 0 (a .1)))
+    (word-checked s w (a .0), ltb-false len (places s) (passed-last (shortCause (places s) len) 10 0 (a .1)))

@@ -5,6 +5,7 @@ ghost use Prim.Native.Nat.{_-_, _*_, _^_, _<_, _≤_};
 ghost use lib.ListN.{length};
 ghost use Rattle.polynomials.specs.Indices.{upto, filled};
 ghost use Rattle.polynomials.specs.Places.{packed, field, shifted, reduced};
+ghost use Rattle.packed.specs.Limits.{largestModulus, mostCoefficients, wordBits};
 ghost use Rattle.packed.specs.Bounds.{Bounds};
 ghost use Rattle.packed.specs.Coefficients.{firstBad, taken, takenOne};
 ghost use Rattle.packed.specs.Places.{wordCause};
@@ -12,7 +13,7 @@ use crate::setting::Setting;
 
 // 2^t
 pub fn power(t: u64) -> u64
-    requires { ⌜ t < 64 ⌝ }
+    requires { ⌜ t < wordBits ⌝ }
     ensures { λ r. ⌜ r ≡ 2 ^ t ⌝ }
 {
     1u64 << t
@@ -20,7 +21,7 @@ pub fn power(t: u64) -> u64
 
 // 2k-1
 pub fn places(k: u64) -> usize
-    requires { ⌜ (1 ≤ k) × (k ≤ 8) ⌝ }
+    requires { ⌜ (1 ≤ k) × (k ≤ mostCoefficients) ⌝ }
     ensures { λ r. ⌜ r ≡ 2 * k - 1 ⌝ }
 {
     (2 * k - 1) as usize
@@ -50,7 +51,7 @@ pub fn first_bad(p: u64, xs: &[u16]) -> usize
 
 // The word of the coefficients as packing takes them, from the highest place down.
 pub fn pack_taken(p: u64, t: u64, xs: &[u16]) -> u64
-    requires { ⌜ (0 < p) × (t < 64) × (packed (2 ^ t) (taken p (now xs)) < 2 ^ 64) ⌝ }
+    requires { ⌜ (0 < p) × (t < wordBits) × (packed (2 ^ t) (taken p (now xs)) < 2 ^ wordBits) ⌝ }
     ensures { λ r. ⌜ r ≡ packed (2 ^ t) (taken p (now (xs .entry))) ⌝ }
 {
     let q = power(t);
@@ -65,7 +66,7 @@ pub fn pack_taken(p: u64, t: u64, xs: &[u16]) -> u64
 
 // The m lowest fields of the word, into the first m elements.
 pub fn split_fields(t: u64, m: usize, word: u64, out: &mut [u64])
-    requires { ⌜ (t < 64) × (m ≤ length (now out)) ⌝ }
+    requires { ⌜ (t < wordBits) × (m ≤ length (now out)) ⌝ }
     ensures { λ _. ⌜ now (out .exit) ≡ filled m (field (2 ^ t) word) (now (out .entry)) ⌝ }
 {
     let q = power(t);
@@ -81,7 +82,7 @@ pub fn split_fields(t: u64, m: usize, word: u64, out: &mut [u64])
 // The u of the m lowest places, into the first m elements, from one division by p: document 003's algorithm 2. Word and quotient are
 // shifted together, so that at place i the one less p times the other is the remainder of what stands from there on.
 pub fn split_shifted(p: u64, t: u64, m: usize, word: u64, out: &mut [u16])
-    requires { ⌜ (0 < p) × (p ≤ 65536) × (t < 64) × (m ≤ length (now out)) ⌝ }
+    requires { ⌜ (0 < p) × (p ≤ largestModulus) × (t < wordBits) × (m ≤ length (now out)) ⌝ }
     ensures { λ _. ⌜ now (out .exit) ≡ filled m (shifted p (2 ^ t) word) (now (out .entry)) ⌝ }
 {
     let mut rest = word;
@@ -97,7 +98,7 @@ pub fn split_shifted(p: u64, t: u64, m: usize, word: u64, out: &mut [u16])
 
 // The word of the m lowest fields modulo p, each by its own remainder, from the highest place down.
 pub fn reduce_fields(p: u64, t: u64, m: usize, word: u64) -> u64
-    requires { ⌜ (0 < p) × (t < 64) × ((m - 1) * t < 64) ⌝ }
+    requires { ⌜ (0 < p) × (t < wordBits) × ((m - 1) * t < wordBits) ⌝ }
     ensures { λ r. ⌜ r ≡ packed (2 ^ t) (upto m (reduced p (2 ^ t) word)) ⌝ }
 {
     let q = power(t);

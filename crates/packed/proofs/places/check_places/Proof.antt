@@ -6,7 +6,6 @@ use Rattle.packed.specs.Answers.{fine}
 use Rattle.packed.specs.Settings.{places, checkedSays}
 use Rattle.packed.specs.Places.{wordChecks, placesChecks}
 use Rattle.packed.specs.WordLaws.{word-checked}
-use Rattle.packed.specs.Bounds.{bounds}
 use Rattle.packed.proofs.places.check_places.Statement.{statement}
 use Rattle.packed.proofs.places.check_places.Tie as tie
 
@@ -30,7 +29,7 @@ enum-told c = search needs
 places-requires : tie.Need-places-requires
 places-requires c κs =
     let a = c .before .before .before .args in
-    let choice = bounds (a .s) (word-checked (a .s) (a .word) (passed c) .0) .range .choice in
+    let choice = word-checked (a .s) (a .word) (passed c) .bounded .range .choice in
     (choice .k-low, choice .k-high)
 
 returns-2 : tie.Need-returns-2

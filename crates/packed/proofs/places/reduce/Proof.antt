@@ -7,7 +7,7 @@ use Rattle.packed.specs.Answers.{answered, fine}
 use Rattle.packed.specs.Settings.{checkedSays}
 use Rattle.packed.specs.Places.{wordChecks, reduceAnswer}
 use Rattle.packed.specs.WordLaws.{word-checked}
-use Rattle.packed.specs.Bounds.{Bounds, bounds}
+use Rattle.packed.specs.Bounds.{Bounds}
 use Rattle.packed.proofs.places.reduce.Statement.{statement}
 use Rattle.packed.proofs.places.reduce.Tie as tie
 
@@ -16,9 +16,7 @@ passed : (c : tie.After-enum-told) → wordChecks (c .before .before .before .ar
 passed c = sym (c .before .before .check-word .ensures) ∙ ap checkedSays (c .enum-told .given .1)
 
 bounded : (c : tie.After-enum-told) → Bounds (c .before .before .before .args .s)
-bounded c =
-    let a = c .before .before .before .args in
-    bounds (a .s) (word-checked (a .s) (a .word) (passed c) .0)
+bounded c = word-checked _ _ (passed c) .bounded
 
 -- ---- the needs
 

@@ -10,8 +10,7 @@ use Rattle.packed.specs.Answers.{fine}
 use Rattle.packed.specs.SharedAnswers.{writes-nothing, writes-filled}
 use Rattle.packed.specs.Settings.{base, places, checkedSays}
 use Rattle.packed.specs.Places.{placesChecks}
-use Rattle.packed.specs.WordLaws.{word-checked, places-checked}
-use Rattle.packed.specs.Bounds.{Bounds, bounds}
+use Rattle.packed.specs.WordLaws.{WordFits, places-checked}
 use Rattle.packed.proofs.places.shifted_residues.Statement.{statement}
 use Rattle.packed.proofs.places.shifted_residues.Tie as tie
 
@@ -19,15 +18,8 @@ use Rattle.packed.proofs.places.shifted_residues.Tie as tie
 passed : (c : tie.After-enum-told) → placesChecks (c .before .before .before .before .args .s) (c .before .before .before .before .args .word) (length (now (c .before .before .before .before .args .out))) ≡ fine
 passed c = sym (c .before .before .check-places .ensures) ∙ ap checkedSays (c .enum-told .given .1)
 
-bounded : (c : tie.After-enum-told) → Bounds (c .before .before .before .before .args .s)
-bounded c =
-    let a = c .before .before .before .before .args in
-    bounds (a .s) (word-checked (a .s) (a .word) (places-checked (a .s) (a .word) (length (now (a .out))) (passed c) .0) .0)
-
-long-enough : (c : tie.After-enum-told) → places (c .before .before .before .before .args .s) ≤ length (now (c .before .before .before .before .args .out))
-long-enough c =
-    let a = c .before .before .before .before .args in
-    places-checked (a .s) (a .word) (length (now (a .out))) (passed c) .1
+opened : (c : tie.After-enum-told) → WordFits (c .before .before .before .before .args .s) (c .before .before .before .before .args .word) × (places (c .before .before .before .before .args .s) ≤ length (now (c .before .before .before .before .args .out)))
+opened c = places-checked _ _ _ (passed c)
 
 -- ---- the needs
 
@@ -46,12 +38,13 @@ enum-told : tie.Need-enum-told
 enum-told c = search needs
 
 places-requires : tie.Need-places-requires
-places-requires c κs = (bounded c .range .choice .k-low, bounded c .range .choice .k-high)
+places-requires c κs = let choice = opened c .0 .bounded .range .choice in (choice .k-low, choice .k-high)
 
 split-shifted-requires : tie.Need-split-shifted-requires
 split-shifted-requires c κs =
-    let w = c .before .before in
-    (omega (arith, bounded w .range .choice .p-low), bounded w .range .choice .p-high, omega (arith, bounded w .range .t-high), omega (arith, c .before .places .ensures, long-enough w))
+    let o = opened (c .before .before) in
+    let range = o .0 .bounded .range in
+    (omega (arith, range .choice .p-low), range .choice .p-high, omega (arith, range .t-high), omega (arith, c .before .places .ensures, o .1))
 
 same-length : tie.Need-same-length
 same-length c = search needs
