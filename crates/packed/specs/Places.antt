@@ -21,7 +21,7 @@ use lib.ListN.{length}
 use Rattle.polynomials.specs.Indices.{upto}
 use Rattle.polynomials.specs.Places.{packed, fields, shifted, reduced}
 use Rattle.packed.specs.Answers.{Answer, answered, Verdict, refuse, _andThen_}
-use Rattle.packed.specs.SharedAnswers.{wordSays, word-once, shortCause, Writes, writes-once}
+use Rattle.packed.specs.SharedAnswers.{packedSays, packed-once, shortCause, Writes, writes-once}
 use Rattle.packed.specs.Settings.{settingChecks, base, places, spanOf}
 use Rattle.packed.specs.Coefficients.{taken, coefficientCheck}
 use Rattle.packed.specs.declared.setting.Setting.{Setting}
@@ -50,10 +50,10 @@ packAnswer s xs =
     andThen answered (packed (base s) (taken (s .p) xs))
 
 abbrev pub Packs : Setting → List ℕ → Packed → Type 0
-Packs s xs r = wordSays r ≡ packAnswer s xs
+Packs s xs r = packedSays r ≡ packAnswer s xs
 
 pub pack-once : (s : Setting) (xs : List ℕ) (a b : Packed) → Packs s xs a → Packs s xs b → a ≡ b
-pack-once s xs a b = word-once a b (packAnswer s xs)
+pack-once s xs a b = packed-once a b (packAnswer s xs)
 
 -- ---- unpack
 
@@ -78,7 +78,7 @@ unfoldable pub reduceAnswer : Setting → ℕ → Answer ℕ
 reduceAnswer s w = wordChecks s w andThen answered (packed (base s) (upto (places s) (reduced (s .p) (base s) w)))
 
 abbrev pub Reduces : Setting → ℕ → Packed → Type 0
-Reduces s w r = wordSays r ≡ reduceAnswer s w
+Reduces s w r = packedSays r ≡ reduceAnswer s w
 
 pub reduce-once : (s : Setting) (w : ℕ) (a b : Packed) → Reduces s w a → Reduces s w b → a ≡ b
-reduce-once s w a b = word-once a b (reduceAnswer s w)
+reduce-once s w a b = packed-once a b (reduceAnswer s w)

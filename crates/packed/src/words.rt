@@ -111,7 +111,8 @@ pub fn reduce_fields(p: u64, t: u64, m: usize, word: u64) -> u64
     w
 }
 
-// What packing takes of a coefficient below p: the coefficient itself. All that is packed is read here.
+// What packing takes of a coefficient: the coefficient itself, and p has no part in it yet. All that is packed is read here, so that a
+// rule which takes it modulo p would be put here alone.
 fn taken_one(p: u64, x: u16) -> u64
     requires { ⌜ 0 < p ⌝ }
     ensures { λ r. ⌜ r ≡ takenOne p x ⌝ }

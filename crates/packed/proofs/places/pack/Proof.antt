@@ -71,8 +71,8 @@ returns-4 : tie.Need-returns-4
 unfolding packAnswer
 returns-4 c =
     let a = c .before .before .before .before .before .before .before .before .before .args in
-    ap answered (c .pack-taken .ensures)
-    ∙ sym (rw (accepted (c .before .before .before .before .before), eq-eqb (length (now (a .coefficients))) (a .s .k) (c .before .before .before .if1 .left), ← c .before .before .first-bad .ensures, le-ltb (c .before .before .first-bad .result) (length (now (a .coefficients))) (c .before .if2 .left)))
+    let answer : packAnswer (a .s) (now (a .coefficients)) ≡ answered (c .pack-taken .result) = rw (accepted (c .before .before .before .before .before), eq-eqb (length (now (a .coefficients))) (a .s .k) (c .before .before .before .if1 .left), ← c .before .before .first-bad .ensures, le-ltb (c .before .before .first-bad .result) (length (now (a .coefficients))) (c .before .if2 .left), c .pack-taken .ensures) in
+    sym answer
 
 pub pack-spec : {M : Type 1} → statement M
 pack-spec =

@@ -45,7 +45,9 @@ reduce-fields-requires c κs =
 returns-2 : tie.Need-returns-2
 unfolding reduceAnswer
 returns-2 c =
-    ap answered (c .reduce-fields .ensures) ∙ sym (rw (passed (c .before .before), ← c .before .places .ensures))
+    let a = c .before .before .before .before .before .args in
+    let answer : reduceAnswer (a .s) (a .word) ≡ answered (c .reduce-fields .result) = rw (passed (c .before .before), c .reduce-fields .ensures, c .before .places .ensures) in
+    sym answer
 
 pub reduce-spec : {M : Type 1} → statement M
 reduce-spec =
