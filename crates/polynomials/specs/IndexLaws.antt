@@ -1,7 +1,7 @@
 -- Laws of what runs over an index. Assumes nothing.
 --     length-upto, upto-at, upto-past               the list's length, its elements, and zero past its end
 --     upto-most                                     no element is above f's value there, also past the end
---     filled-length, filled-more                    a filling loop keeps the list's length; its turn at i
+--     filled-more                                   a filling loop's turn at i
 --     sum-zero, sum-front, sum-same, sum-window     sums: of zeros; first term apart; term by term; of a window of terms
 --     first-is, first-only                          the search finds what First says, and First says it of one number only
 --     first-found, first-passed, first-ended        a searching loop's turn at i: it stops, it goes on, it is through
@@ -14,7 +14,7 @@ use native.Mathlib.Nat.{not-suc-le-zero, le-of-suc-le-suc, eq-or-lt-of-le, mul-l
 use native.Mathlib.Decide.{decLt}
 use native.Mathlib.Numerals.{add-one}
 use native.Mathlib.Omega.{arith}
-use lib.ListN.{length, getD, set, drop, length-append, length-drop, List·getD-append, List·getD-eq-default}
+use lib.ListN.{length, getD, set, drop, length-append, List·getD-append, List·getD-eq-default}
 use lib.Seq.{getD-at, set-at, drop-cons, append-snoc}
 use Rattle.polynomials.specs.Indices.{pick, sumTo, upto, filled, first, First}
 
@@ -41,9 +41,6 @@ upto-most n f i = go (decLt i n)
     go (no h) = rw (upto-past n f i (omega arith)) zero-le
 
 -- ---- fills
-
-pub filled-length : (n : ℕ) (f : ℕ → ℕ) (old : List ℕ) → n ≤ length old → length (filled n f old) ≡ length old
-filled-length n f old h = simp (length-append, length-upto, length-drop) (omega arith)
 
 pub filled-more : (f : ℕ → ℕ) (old now : List ℕ) (i v : ℕ) → i < length old → now ≡ filled i f old → v ≡ f i → set now i v ≡ filled (i + 1) f old
 filled-more f old now i v h e w =

@@ -17,9 +17,9 @@
 --     power-power                  place i of the base b^t starts at b^(i t)
 use Prim.Native.Nat.{ℕ, zero, suc, _+_, _-_, _*_, _/_, _%_, _^_, _≤_, _<_, zero-le}
 use mathlib.Core.Path.{_≡_, refl, sym, _∙_}
-use mathlib.Core.List.{List, [], _∷_, _++_}
+use mathlib.Core.List.{List, [], _∷_, _++_, append-nil}
 use mathlib.Core.Logic.{_↔_}
-use native.Mathlib.Nat.{zero-add, zero-mul, mul-zero, mul-one, mul-comm, mul-le-mul-left, le-mul-of-pos-right, le-antisymm, mul-pos, suc-mul, pow-zero, pow-suc, pow-succ', zero-mod, mod-le, zero-div, mod-one, div-one, mod-eq-of-lt, div-eq-of-lt, add-mul-div-left, add-mul-mod-self-left, div-div-eq-div-mul, le-div-iff-mul-le, one-le-pow}
+use native.Mathlib.Nat.{zero-add, add-zero, zero-mul, mul-zero, mul-one, mul-comm, mul-le-mul-left, le-mul-of-pos-right, le-antisymm, mul-pos, suc-mul, pow-zero, pow-suc, pow-succ', zero-mod, mod-le, zero-div, mod-one, div-one, mod-eq-of-lt, div-eq-of-lt, add-mul-div-left, add-mul-mod-self-left, div-div-eq-div-mul, le-div-iff-mul-le, one-le-pow}
 use native.Mathlib.Numerals.{add-one}
 use native.Mathlib.Omega.{arith}
 use lib.Arith.{mod-mul}
@@ -94,15 +94,13 @@ field-packed q (x ∷ xs) h (suc i) =
     let up : (x + q * packed q xs) / q ≡ packed q xs = add-mul-div-left x (packed q xs) (omega arith) ∙ rw (div-eq-of-lt hx) (zero-add (packed q xs)) in
     rw (pow-succ', ← div-div-eq-div-mul, up) (field-packed q xs (λ j. h (suc j)) i)
 
-pub fields-packed : (q : ℕ) (xs : List ℕ) → Below q xs → fields q (length xs) (packed q xs) ≡ xs
-fields-packed q xs h =
-    lists-agree (fields q (length xs) (packed q xs)) xs (length-upto (length xs) (field q (packed q xs)))
-    (λ j l. upto-at (length xs) (field q (packed q xs)) j (rw length-upto at l) ∙ field-packed q xs h j)
-
 pub fields-zeros : (q : ℕ) (xs : List ℕ) (z : ℕ) → Below q xs → fields q (length xs + z) (packed q xs) ≡ xs ++ replicate z 0
 fields-zeros q xs z h =
     lists-agree (fields q (length xs + z) (packed q xs)) (xs ++ replicate z 0) (simp (length-upto, length-append, length-replicate))
     (λ j l. upto-at (length xs + z) (field q (packed q xs)) j (rw length-upto at l) ∙ field-packed q xs h j ∙ sym (coefficient-zeros xs z j))
+
+pub fields-packed : (q : ℕ) (xs : List ℕ) → Below q xs → fields q (length xs) (packed q xs) ≡ xs
+fields-packed q xs h = rw (add-zero, append-nil) at (fields-zeros q xs 0 h)
 
 packed-fields-mod : (q : ℕ) → 0 < q → (m r : ℕ) → packed q (fields q m r) ≡ r % q ^ m
 packed-fields-mod q hq zero r = rw (pow-zero, mod-one)
