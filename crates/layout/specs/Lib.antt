@@ -1,0 +1,3 @@
+-- Bytes in a buffer. Each file opens with its notions.
+pub mod Numbers
+pub mod Beginnings

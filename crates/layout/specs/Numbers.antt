@@ -1,0 +1,29 @@
+-- Whole numbers in bytes, the highest byte first. Assumes nothing.
+--     bigEndian w n        n in w bytes, big-endian: its w lowest places in the base 256, the highest first
+--     number bs            the number that bytes stand for
+--     length-bigEndian     w bytes
+--     number-bigEndian     reading gives the number back, where w bytes have room for it
+--     bigEndian-only       so no other number that has room stands in the same bytes
+use Prim.Native.Nat.{ℕ, _^_, _<_}
+use mathlib.Core.Path.{_≡_, sym, ap, _∙_}
+use mathlib.Core.List.{List, reverse, reverse-reverse}
+use native.Mathlib.Omega.{arith}
+use lib.ListN.{length, length-reverse}
+use Rattle.polynomials.specs.Places.{packed, field, fields}
+use Rattle.polynomials.specs.IndexLaws.{length-upto}
+use Rattle.polynomials.specs.PlaceLaws.{packed-fields}
+
+abbrev pub bigEndian : ℕ → ℕ → List ℕ
+bigEndian w n = reverse (fields 256 w n)
+
+abbrev pub number : List ℕ → ℕ
+number bs = packed 256 (reverse bs)
+
+pub length-bigEndian : (w n : ℕ) → length (bigEndian w n) ≡ w
+length-bigEndian w n = length-reverse (fields 256 w n) ∙ length-upto w (field 256 n)
+
+pub number-bigEndian : (w n : ℕ) → n < 256 ^ w → number (bigEndian w n) ≡ n
+number-bigEndian w n h = ap (packed 256) (reverse-reverse (fields 256 w n)) ∙ packed-fields 256 (omega arith) w n h
+
+pub bigEndian-only : (w m n : ℕ) → m < 256 ^ w → n < 256 ^ w → bigEndian w m ≡ bigEndian w n → m ≡ n
+bigEndian-only w m n hm hn e = sym (number-bigEndian w m hm) ∙ ap number e ∙ number-bigEndian w n hn
