@@ -7,4 +7,5 @@ pub mod ListLaws
 pub mod BoundLaws
 pub mod PlaceLaws
 pub mod ReductionLaws
+pub mod TableLaws
 pub mod Examples

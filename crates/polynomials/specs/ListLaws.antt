@@ -1,5 +1,6 @@
 -- Laws of lists as polynomials. Assumes nothing.
 --     lists-agree                          two lists are equal if they have one length and all coefficients agree
+--     coefficients                         a list is that of its coefficients
 --     coefficient-past                     zero past the end
 --     coefficient-zeros                    zeros at the high end change no coefficient
 --     length-LIST, coefficient-LIST        of a sum, a scaled list, a product, residues, each under that name
@@ -12,11 +13,17 @@ use native.Mathlib.Decide.{decLt}
 use native.Mathlib.Omega.{arith}
 use lib.ListN.{length, replicate, List·getD-eq-default}
 use lib.Seq.{ext-getD}
+use Rattle.polynomials.specs.Indices.{upto}
 use Rattle.polynomials.specs.Lists.{coefficient, sum, scaled, productLength, productAt, product, residues}
 use Rattle.polynomials.specs.IndexLaws.{length-upto, upto-at, upto-past, sum-zero, sum-front, sum-same}
 
 pub lists-agree : (xs ys : List ℕ) → length xs ≡ length ys → ((j : ℕ) → j < length xs → coefficient xs j ≡ coefficient ys j) → xs ≡ ys
 lists-agree xs ys e h = ext-getD 0 xs ys e h
+
+pub coefficients : (xs : List ℕ) → upto (length xs) (coefficient xs) ≡ xs
+coefficients xs =
+    lists-agree (upto (length xs) (coefficient xs)) xs (length-upto (length xs) (coefficient xs))
+    (λ j l. upto-at (length xs) (coefficient xs) j (rw length-upto at l))
 
 pub coefficient-past : (xs : List ℕ) (j : ℕ) → length xs ≤ j → coefficient xs j ≡ 0
 coefficient-past xs j h = List·getD-eq-default xs 0 h

@@ -5,6 +5,7 @@
 --                                  the packed number of a sum, .. is the sum, .. of the packed numbers
 --     packed-most                  smaller coefficients pack to a smaller number
 --     packed-snoc                  the highest place apart
+--     packed-next, packed-fewer    packing from the lowest place up: the turn from place i to the one above; fewer places give no more
 --     packed-turn, packed-part     packing from the highest place down: the turn from place i to the one below; a part is at most the whole
 --     field-packed, fields-packed  the fields of a packed list give it back
 --     fields-zeros                 and zeros in the places after it
@@ -20,6 +21,7 @@ use mathlib.Core.Path.{_≡_, refl, sym, _∙_}
 use mathlib.Core.List.{List, [], _∷_, _++_, append-nil}
 use mathlib.Core.Logic.{_↔_}
 use native.Mathlib.Nat.{zero-add, add-zero, zero-mul, mul-zero, mul-one, mul-comm, mul-le-mul-left, le-mul-of-pos-right, le-antisymm, mul-pos, suc-mul, pow-zero, pow-suc, pow-succ', zero-mod, mod-le, zero-div, mod-one, div-one, mod-eq-of-lt, div-eq-of-lt, add-mul-div-left, add-mul-mod-self-left, div-div-eq-div-mul, le-div-iff-mul-le, one-le-pow}
+use native.Mathlib.Decide.{decLt}
 use native.Mathlib.Numerals.{add-one}
 use native.Mathlib.Omega.{arith}
 use lib.Arith.{mod-mul}
@@ -29,7 +31,7 @@ use lib.Seq.{drop-cons}
 use Rattle.polynomials.specs.Indices.{upto}
 use Rattle.polynomials.specs.Lists.{coefficient, sum, scaled, product, Below, Pair, sumOfProducts}
 use Rattle.polynomials.specs.Places.{packed, field, fields, sumOfWords}
-use Rattle.polynomials.specs.IndexLaws.{length-upto, upto-at}
+use Rattle.polynomials.specs.IndexLaws.{length-upto, upto-at, upto-past}
 use Rattle.polynomials.specs.ListLaws.{lists-agree, coefficient-zeros, product-row}
 
 pub packed-agree : (q : ℕ) (xs ys : List ℕ) → ((j : ℕ) → coefficient xs j ≡ coefficient ys j) → packed q xs ≡ packed q ys
@@ -72,6 +74,16 @@ packed-sumOfProducts q (c ∷ cs) =
 pub packed-snoc : (q : ℕ) (xs : List ℕ) (x : ℕ) → packed q (xs ++ (x ∷ [])) ≡ packed q xs + x * q ^ length xs
 packed-snoc q [] x = rw (pow-zero, mul-zero, mul-one) (omega arith)
 packed-snoc q (y ∷ xs) x = rw (packed-snoc q xs x, pow-succ') (omega arith)
+
+pub packed-next : (q : ℕ) (f : ℕ → ℕ) (i : ℕ) → packed q (upto (i + 1) f) ≡ packed q (upto i f) + f i * q ^ i
+packed-next q f i = rw add-one (packed-snoc q (upto i f) (f i) ∙ rw length-upto)
+
+pub packed-fewer : (q : ℕ) (f : ℕ → ℕ) (i m : ℕ) → i ≤ m → packed q (upto i f) ≤ packed q (upto m f)
+packed-fewer q f i m h = packed-most q (upto i f) (upto m f) (λ j. at j (decLt j i))
+  where
+    at : (j : ℕ) → Dec (j < i) → coefficient (upto i f) j ≤ coefficient (upto m f) j
+    at j (yes l) = rw (upto-at i f j l, upto-at m f j (omega arith)) (omega arith)
+    at j (no l) = rw (upto-past i f j (omega arith)) zero-le
 
 pub packed-part : (q : ℕ) → 0 < q → (xs : List ℕ) (i : ℕ) → packed q (drop i xs) ≤ packed q xs
 packed-part q hq xs zero = omega arith

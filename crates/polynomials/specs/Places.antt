@@ -6,10 +6,13 @@
 --     reduced p q r i   m_i, the field at place i modulo p
 --     minus p u w       (u - w) mod p, taken in 0..p-1
 --     sumOfWords q cs   the products of the pairs' packed numbers, added up
-use Prim.Native.Nat.{ℕ, _+_, _-_, _*_, _/_, _%_, _^_}
+--     entry p q j       entry j of a correction table: entry u + p v is (u - q v) mod p
+--     lookedUp p q es r i
+--                       what stands among the entries es at u_i + p u_(i + 1)
+use Prim.Native.Nat.{ℕ, suc, _+_, _-_, _*_, _/_, _%_, _^_}
 use mathlib.Core.List.{List, [], _∷_}
 use Rattle.polynomials.specs.Indices.{upto}
-use Rattle.polynomials.specs.Lists.{Pair}
+use Rattle.polynomials.specs.Lists.{coefficient, Pair}
 
 abbrev pub packed : ℕ → List ℕ → ℕ
 packed q [] = 0
@@ -33,3 +36,9 @@ minus p u w = (u + (p - w % p)) % p
 abbrev pub sumOfWords : ℕ → List Pair → ℕ
 sumOfWords q [] = 0
 sumOfWords q (c ∷ cs) = packed q (c .left) * packed q (c .right) + sumOfWords q cs
+
+abbrev pub entry : ℕ → ℕ → ℕ → ℕ
+entry p q j = minus p (j % p) (q * (j / p))
+
+abbrev pub lookedUp : ℕ → ℕ → List ℕ → ℕ → ℕ → ℕ
+lookedUp p q es r i = coefficient es (shifted p q r i + p * shifted p q r (suc i))

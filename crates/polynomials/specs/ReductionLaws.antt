@@ -1,4 +1,5 @@
 -- Residues of fields, and document 003's identity. Assumes nothing.
+--     mul-mod                   a factor counts modulo p only
 --     minus-below, minus-is     minus p u w is below p, and adding w to it gives u modulo p
 --     minus-only                no other number does both
 --     reduced-shifted           m_i = (u_i - q u_(i + 1)) mod p
@@ -19,7 +20,7 @@ use Rattle.polynomials.specs.Places.{packed, field, fields, shifted, red
 use Rattle.polynomials.specs.IndexLaws.{upto-at, upto-past, upto-most}
 use Rattle.polynomials.specs.PlaceLaws.{packed-most, packed-fields-most, field-packed}
 
-mul-mod : (a b p : ℕ) → a * (b % p) % p ≡ a * b % p
+pub mul-mod : (a b p : ℕ) → a * (b % p) % p ≡ a * b % p
 mul-mod a b p =
     sym (add-mul-mod-self-right (a * (b % p)) (a * (b / p)) p)
     ∙ ap (λ (n : ℕ). n % p) (omega (arith, ap (λ (n : ℕ). a * n) (div-add-mod' b p)))
