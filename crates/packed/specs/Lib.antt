@@ -8,8 +8,11 @@ pub mod SettingLaws
 pub mod Coefficients
 pub mod SharedAnswers
 pub mod Places
+pub mod Tables
 pub mod Bounds
 pub mod WordLaws
+pub mod TableLaws
+pub mod FitLaws
 pub mod ChoiceLaws
 pub mod RoundTrips
 pub mod ReduceLaws

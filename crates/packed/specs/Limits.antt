@@ -16,3 +16,6 @@ widest = 63
 
 abbrev pub wordBits : ℕ
 wordBits = 64
+
+abbrev pub largestTableModulus : ℕ
+largestTableModulus = 127

@@ -8,7 +8,8 @@
 --     Unpacks s w old r after     of unpack: the 2k-1 fields below q
 --     ShiftedResidues s w old r after
 --                                 of shifted residues: u_i = floor(w / q^i) mod p, i from 0 to 2k-2
---     reduceAnswer s w            the setting's checks, 11; then the word whose field i is m_i, the old field modulo p
+--     reducedWord s w             the word whose field i is m_i, the old field modulo p
+--     reduceAnswer s w            the setting's checks, 11; then that word
 --     Reduces s w r               the promise of reduce
 --     pack-once, unpack-once, shifted-residues-once, reduce-once
 --                                 each promise allows one answer, and one list, only
@@ -74,8 +75,11 @@ shifted-residues-once s w old = writes-once (placesChecks s w (length old)) (upt
 
 -- ---- reduce
 
+abbrev pub reducedWord : Setting → ℕ → ℕ
+reducedWord s w = packed (base s) (upto (places s) (reduced (s .p) (base s) w))
+
 unfoldable pub reduceAnswer : Setting → ℕ → Answer ℕ
-reduceAnswer s w = wordChecks s w andThen answered (packed (base s) (upto (places s) (reduced (s .p) (base s) w)))
+reduceAnswer s w = wordChecks s w andThen answered (reducedWord s w)
 
 abbrev pub Reduces : Setting → ℕ → Packed → Type 0
 Reduces s w r = packedSays r ≡ reduceAnswer s w

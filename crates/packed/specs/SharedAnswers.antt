@@ -6,14 +6,18 @@
 --     Writes checks new old r after   the promise of a call that only writes: what it answers and what the lent list old has become, for
 --                                     its checks and the elements to be written
 --     writes-once                     it allows one answer and one list only
---     writes-nothing, writes-filled   it is kept by a refusal that leaves the list; and, where nothing is refused, by a loop that fills it
+--     writes-nothing                  it is kept by a refusal that leaves the list
+--     writes-filled, writes-list      and, where nothing is refused, by a loop that fills it, with given elements or with those of a list
 use Prim.Native.Nat.{ℕ}
 use mathlib.Core.Path.{_≡_, refl, sym, _∙_}
 use mathlib.Core.Bool.{Bool}
 use mathlib.Core.List.{List}
 use lib.Dec.{ltb}
+use lib.ListN.{length}
 use Rattle.polynomials.specs.Indices.{upto, filled}
 use Rattle.polynomials.specs.IndexLaws.{length-upto}
+use Rattle.polynomials.specs.Lists.{coefficient}
+use Rattle.polynomials.specs.ListLaws.{coefficients}
 use Rattle.packed.specs.Answers.{Answer, answered, refused, Verdict, fine, wrote, leftBy}
 use Rattle.packed.specs.AnswerLaws.{once}
 use Rattle.packed.specs.declared.refusals.Refusal.{Refusal}
@@ -64,3 +68,8 @@ writes-nothing checks new old r e = (rw e, rw e)
 
 pub writes-filled : (checks : Verdict) (m : ℕ) (f : ℕ → ℕ) (old after : List ℕ) → checks ≡ fine → after ≡ filled m f old → Writes checks (upto m f) old (inWrote.Count m) after
 writes-filled checks m f old after e h = (rw (e, length-upto), rw (e, length-upto) h)
+
+pub writes-list : (checks : Verdict) (m : ℕ) (new old after : List ℕ) → checks ≡ fine → length new ≡ m → after ≡ filled m (coefficient new) old → Writes checks new old (inWrote.Count m) after
+writes-list checks m new old after e size h =
+    let all : upto m (coefficient new) ≡ new = rw (← size) (coefficients new) in
+    rw all at (writes-filled checks m (coefficient new) old after e h)

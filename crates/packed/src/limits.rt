@@ -8,3 +8,5 @@ pub const LARGEST_BATCH: u64 = 1048576;
 pub const WIDEST: u64 = 63;
 
 pub const WORD_BITS: u64 = 64;
+
+pub const LARGEST_TABLE_MODULUS: u64 = 127;

@@ -56,12 +56,37 @@ pub const WORD: Refusal = Refusal {
     place: 0,
 };
 
+pub const NO_TABLE: Refusal = Refusal {
+    number: 14,
+    place: 0,
+};
+
 // 8 Coefficient, at the first bad index.
 pub(crate) fn coefficient(place: usize) -> Refusal
     ensures { λ r. ⌜ (r .number ≡ 8) × (r .place ≡ place) ⌝ }
 {
     Refusal {
         number: 8,
+        place: place as u64,
+    }
+}
+
+// 11 Word, where the words stand in a list: at the first bad index.
+pub(crate) fn word_at(place: usize) -> Refusal
+    ensures { λ r. ⌜ (r .number ≡ 11) × (r .place ≡ place) ⌝ }
+{
+    Refusal {
+        number: 11,
+        place: place as u64,
+    }
+}
+
+// 15 Stale, at the first differing byte, or where the buffer ends.
+pub(crate) fn stale(place: usize) -> Refusal
+    ensures { λ r. ⌜ (r .number ≡ 15) × (r .place ≡ place) ⌝ }
+{
+    Refusal {
+        number: 15,
         place: place as u64,
     }
 }

@@ -9,6 +9,7 @@ ghost use Rattle.packed.specs.Limits.{largestModulus, mostCoefficients, 
 ghost use Rattle.packed.specs.Bounds.{Bounds};
 ghost use Rattle.packed.specs.Coefficients.{firstBad, taken, takenOne};
 ghost use Rattle.packed.specs.Places.{wordCause};
+ghost use Rattle.packed.specs.Tables.{firstBadWord};
 use crate::setting::Setting;
 
 // 2^t
@@ -42,6 +43,21 @@ pub fn first_bad(p: u64, xs: &[u16]) -> usize
     let mut i = 0;
     while i < xs.len() {
         if p <= wide(xs[i]) {
+            return i;
+        }
+        i += 1;
+    }
+    i
+}
+
+// The index of the first word that meets 11, or the list's length where there is none.
+pub fn first_bad_word(s: Setting, words: &[u64]) -> usize
+    requires { ⌜ Bounds s ⌝ }
+    ensures { λ r. ⌜ r ≡ firstBadWord s (now (words .entry)) ⌝ }
+{
+    let mut i = 0;
+    while i < words.len() {
+        if word_cause(s, words[i]) {
             return i;
         }
         i += 1;

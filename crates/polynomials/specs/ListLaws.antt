@@ -2,6 +2,7 @@
 --     lists-agree                          two lists are equal if they have one length and all coefficients agree
 --     coefficients                         a list is that of its coefficients
 --     coefficient-past                     zero past the end
+--     coefficient-after                    past a first list, that of the second
 --     coefficient-zeros                    zeros at the high end change no coefficient
 --     length-LIST, coefficient-LIST        of a sum, a scaled list, a product, residues, each under that name
 --     product-row                          the first factor's lowest coefficient apart
@@ -12,7 +13,7 @@ use native.Mathlib.Nat.{zero-add, add-zero, zero-mul, mul-zero, zero-mod, sub-ze
 use native.Mathlib.Decide.{decLt}
 use native.Mathlib.Omega.{arith}
 use lib.ListN.{length, replicate, List·getD-eq-default}
-use lib.Seq.{ext-getD}
+use lib.Seq.{ext-getD, getD-append-add}
 use Rattle.polynomials.specs.Indices.{upto}
 use Rattle.polynomials.specs.Lists.{coefficient, sum, scaled, productLength, productAt, product, residues}
 use Rattle.polynomials.specs.IndexLaws.{length-upto, upto-at, upto-past, sum-zero, sum-front, sum-same}
@@ -27,6 +28,11 @@ coefficients xs =
 
 pub coefficient-past : (xs : List ℕ) (j : ℕ) → length xs ≤ j → coefficient xs j ≡ 0
 coefficient-past xs j h = List·getD-eq-default xs 0 h
+
+pub coefficient-after : (xs ys : List ℕ) (j : ℕ) → length xs ≤ j → coefficient (xs ++ ys) j ≡ coefficient ys (j - length xs)
+coefficient-after xs ys j h =
+    let split : length xs + (j - length xs) ≡ j = omega arith in
+    rw split at (getD-append-add xs ys (j - length xs) 0)
 
 zeros-at : (z j : ℕ) → coefficient (replicate z 0) j ≡ 0
 zeros-at zero j = refl

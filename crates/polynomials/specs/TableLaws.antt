@@ -5,12 +5,13 @@
 --     entry-sum        it is u plus p - q times v, modulo p: nothing is taken away
 --     table-place      u + p v, both below p, is a place of the table
 --     looked-up        what is looked up for place i of a number is m_i
+--     looked-up-word   so the number of all that is looked up is that of the m
 use Prim.Native.Nat.{ℕ, suc, _+_, _-_, _*_, _/_, _%_, _≤_, _<_}
-use mathlib.Core.Path.{_≡_, sym, ap, _∙_}
+use mathlib.Core.Path.{_≡_, sym, ap, _∙_, fun-ext}
 use native.Mathlib.Nat.{zero-add, mul-comm, mul-le-mul-left, mul-suc, add-mul, mod-lt, mod-add-mod, mod-eq-of-lt, div-eq-of-lt, add-mul-div-left, add-mul-mod-self-left}
 use native.Mathlib.Omega.{arith}
 use Rattle.polynomials.specs.Indices.{upto}
-use Rattle.polynomials.specs.Places.{shifted, reduced, minus, entry, lookedUp}
+use Rattle.polynomials.specs.Places.{packed, shifted, reduced, minus, entry, lookedUp}
 use Rattle.polynomials.specs.IndexLaws.{upto-at}
 use Rattle.polynomials.specs.ReductionLaws.{mul-mod, minus-below, minus-only, reduced-shifted}
 
@@ -45,3 +46,6 @@ looked-up p q r i h =
     upto-at (p * p) (entry p q) (u i + p * u (suc i)) (table-place p (u i) (u (suc i)) (mod-lt _ h) (mod-lt _ h))
     ∙ entry-at p q (u i) (u (suc i)) (mod-lt _ h)
     ∙ sym (reduced-shifted p q r i h)
+
+pub looked-up-word : (p q m r : ℕ) → 0 < p → packed q (upto m (lookedUp p q (upto (p * p) (entry p q)) r)) ≡ packed q (upto m (reduced p q r))
+looked-up-word p q m r h = ap (λ (f : ℕ → ℕ). packed q (upto m f)) (fun-ext (λ i. looked-up p q r i h))

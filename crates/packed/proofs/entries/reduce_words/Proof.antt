@@ -1,0 +1,100 @@
+-- `reduce_words` meets its contract: after i turns the first i words stand reduced. Assumes nothing.
+use Prim.Native.Nat.{_-_, _*_, _^_, _≤_, _<_}
+use mathlib.Core.Path.{_≡_, refl, ap, _∙_}
+use native.Mathlib.Nat.{lt-of-le-of-lt}
+use native.Mathlib.Omega.{arith}
+use lib.ListN.{length, getD, length-set}
+use lib.Pow.{pow-pos}
+use denote.Ref.{now}
+use Rattle.polynomials.specs.Indices.{filled}
+use Rattle.polynomials.specs.IndexLaws.{length-upto, filled-more}
+use Rattle.polynomials.specs.Places.{entry}
+use Rattle.polynomials.specs.ReductionLaws.{reduced-most}
+use Rattle.polynomials.specs.TableLaws.{looked-up-word}
+use Rattle.packed.specs.Tables.{reducedWordAt}
+use borrow.Author.Needs.{needs}
+use Rattle.packed.proofs.entries.reduce_words.Statement.{statement}
+use Rattle.packed.proofs.entries.reduce_words.Tie as tie
+
+abbrev Inv-loop : tie.InvT-loop
+Inv-loop s held words out₀ m i₀ out i = (i ≤ length words) × (out ≡ filled i (reducedWordAt s words) out₀) × (length out ≡ length out₀)
+
+abbrev μ-loop : tie.MeasureT-loop
+μ-loop s held words out₀ m i₀ out i = length words - i
+
+places-requires : tie.Need-places-requires Inv-loop μ-loop
+places-requires c κs = let choice = c .before .before .before .pre .0 .range .choice in (choice .k-low, choice .k-high)
+
+loop-holds : tie.Need-loop-holds Inv-loop μ-loop
+loop-holds c = (omega arith, refl, refl)
+
+mul-look-up : tie.Need-mul-look-up Inv-loop μ-loop
+mul-look-up c = search needs
+
+shared-slice-read-look-up : tie.Need-shared-slice-read-look-up Inv-loop μ-loop
+shared-slice-read-look-up c = search needs
+
+look-up-requires : tie.Need-look-up-requires Inv-loop μ-loop
+look-up-requires c κs =
+    let a = c .before .before .before .before .before .before .before .args in
+    let pre = c .before .before .before .before .before .before .before .pre in
+    let b = pre .0 in
+    let p-pos : 0 < a .s .p = omega (arith, b .range .choice .p-low) in
+    let last : c .before .before .before .places .result - 1 ≡ 2 * a .s .k - 2 = omega (arith, c .before .before .before .places .ensures) in (
+      p-pos,
+      b .range .choice .p-high,
+      omega (arith, b .range .t-high),
+      rw last (b .last-place),
+      omega (arith, ap length (pre .1), length-upto (a .s .p * a .s .p) (entry (a .s .p) (2 ^ a .s .t))),
+      rw (pre .1, looked-up-word (a .s .p) (2 ^ a .s .t) (c .before .before .before .places .result) (getD (now (a .words)) (c .before .before .loop .i) 0) p-pos)
+          (lt-of-le-of-lt (reduced-most (a .s .p) (2 ^ a .s .t) (c .before .before .before .places .result) (getD (now (a .words)) (c .before .before .loop .i) 0) (pow-pos (a .s .t))) (c .shared-slice-known3 .given (c .before .before .loop .i) .fits)),
+    )
+
+mul-out : tie.Need-mul-out Inv-loop μ-loop
+mul-out c = search needs
+
+slice-write-out : tie.Need-slice-write-out Inv-loop μ-loop
+slice-write-out c = search needs
+
+add-i : tie.Need-add-i Inv-loop μ-loop
+add-i c = search needs
+
+loop-less : tie.Need-loop-less Inv-loop μ-loop
+loop-less c = search needs
+
+loop-again : tie.Need-loop-again Inv-loop μ-loop
+loop-again c =
+    let a = c .before .before .before .before .before .before .before .before .args in
+    let l = c .before .before .before .loop in
+    let m = c .before .before .before .before .places in
+    let pre = c .before .before .before .before .before .before .before .before .pre in
+    let p-pos : 0 < a .s .p = omega (arith, pre .0 .range .choice .p-low) in
+    let same : c .look-up .result ≡ reducedWordAt (a .s) (now (a .words)) (l .i) = c .look-up .ensures ∙ rw (pre .1, m .ensures) (looked-up-word (a .s .p) (2 ^ a .s .t) (2 * a .s .k - 1) (getD (now (a .words)) (l .i) 0) p-pos) in
+    (omega arith, filled-more (reducedWordAt (a .s) (now (a .words))) (a .out .now) (l .out) (l .i) (c .look-up .result) (omega (arith, pre .2)) (l .inv .1) same, simp length-set (l .inv .2))
+
+same-length : tie.Need-same-length Inv-loop μ-loop
+same-length c = c .before .loop .inv .2
+
+returns : tie.Need-returns Inv-loop μ-loop
+returns c =
+    let all : c .before .loop .i ≡ length (now (c .before .before .before .before .before .before .args .words)) = omega arith in
+    rw (← all) (c .before .loop .inv .1)
+
+pub reduce-words-spec : {M : Type 1} → statement M
+reduce-words-spec =
+    tie.close
+    (tie.spec
+    Inv-loop
+    μ-loop
+    places-requires
+    loop-holds
+    mul-look-up
+    shared-slice-read-look-up
+    look-up-requires
+    mul-out
+    slice-write-out
+    add-i
+    loop-less
+    loop-again
+    same-length
+    returns)

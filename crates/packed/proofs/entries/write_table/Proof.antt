@@ -1,0 +1,88 @@
+-- `write_table` meets its contract: after i turns the first i bytes stand. Assumes nothing.
+use Prim.Native.Nat.{_-_, _≤_}
+use mathlib.Core.Path.{_≡_, refl, ap, _∙_}
+use native.Mathlib.Nat.{mod-lt}
+use native.Mathlib.Omega.{arith}
+use lib.ListN.{length, length-set}
+use Rattle.polynomials.specs.Indices.{filled}
+use Rattle.polynomials.specs.IndexLaws.{filled-more}
+use Rattle.polynomials.specs.Lists.{coefficient}
+use Rattle.packed.specs.Tables.{table, tableSize}
+use Rattle.packed.specs.TableLaws.{byte-made}
+use borrow.Author.Needs.{needs}
+use Rattle.packed.proofs.entries.write_table.Statement.{statement}
+use Rattle.packed.proofs.entries.write_table.Tie as tie
+
+abbrev Inv-loop : tie.InvT-loop
+Inv-loop p t out₀ end head q i₀ out i = (i ≤ tableSize p) × (out ≡ filled i (coefficient (table p t)) out₀) × (length out ≡ length out₀)
+
+abbrev μ-loop : tie.MeasureT-loop
+μ-loop p t out₀ end head q i₀ out i = tableSize p - i
+
+table-size-requires : tie.Need-table-size-requires Inv-loop μ-loop
+table-size-requires c κs = search needs
+
+header-bytes-requires : tie.Need-header-bytes-requires Inv-loop μ-loop
+header-bytes-requires c κs = search needs
+
+power-requires : tie.Need-power-requires Inv-loop μ-loop
+power-requires c κs = search needs
+
+rem-q : tie.Need-rem-q Inv-loop μ-loop
+rem-q c = search needs
+
+loop-holds : tie.Need-loop-holds Inv-loop μ-loop
+loop-holds c = (omega arith, refl, refl)
+
+table-byte-requires : tie.Need-table-byte-requires Inv-loop μ-loop
+table-byte-requires c κs =
+    let pre = c .before .before .before .before .before .before .pre in
+    (pre .0, pre .1, mod-lt (c .before .before .power .result) (pre .0), ap length (c .before .before .before .header-bytes .ensures), omega arith)
+
+-- what is written
+byte : (c : tie.After-table-byte Inv-loop μ-loop) → c .table-byte .result ≡ coefficient (table (c .before .before .before .before .before .before .before .args .p) (c .before .before .before .before .before .before .before .args .t)) (c .before .before .loop .i)
+byte c =
+    let a = c .before .before .before .before .before .before .before .args in
+    byte-made (a .p) (a .t) (c .before .before .before .power .result) (c .before .before .loop .i) (c .table-byte .result) (c .before .before .before .before .header-bytes .result) (c .before .before .before .before .header-bytes .ensures) (c .before .before .before .power .ensures) (c .table-byte .ensures)
+
+slice-write-out : tie.Need-slice-write-out Inv-loop μ-loop
+slice-write-out c = search needs
+
+add-i : tie.Need-add-i Inv-loop μ-loop
+add-i c = search needs
+
+loop-less : tie.Need-loop-less Inv-loop μ-loop
+loop-less c = search needs
+
+loop-again : tie.Need-loop-again Inv-loop μ-loop
+loop-again c =
+    let a = c .before .before .before .before .before .before .before .args in
+    let l = c .before .before .loop in
+    (omega arith, filled-more (coefficient (table (a .p) (a .t))) (a .out .now) (l .out) (l .i) (c .table-byte .result) (omega (arith, c .before .before .before .before .before .before .before .pre .3)) (l .inv .1) (byte c), simp length-set (l .inv .2))
+
+same-length : tie.Need-same-length Inv-loop μ-loop
+same-length c = c .before .loop .inv .2
+
+returns : tie.Need-returns Inv-loop μ-loop
+returns c =
+    let all : c .before .loop .i ≡ tableSize (c .before .before .before .before .before .before .args .p) = omega arith in
+    rw (← all) (c .before .loop .inv .1)
+
+pub write-table-spec : {M : Type 1} → statement M
+write-table-spec =
+    tie.close
+    (tie.spec
+    Inv-loop
+    μ-loop
+    table-size-requires
+    header-bytes-requires
+    power-requires
+    rem-q
+    loop-holds
+    table-byte-requires
+    slice-write-out
+    add-i
+    loop-less
+    loop-again
+    same-length
+    returns)

@@ -1,0 +1,51 @@
+-- The correction table's bytes, part by part. Assumes nothing.
+--     square-most          p^2 is at most 127^2, where 14 is not given
+--     header p t           the bytes before the entries
+--     header-length        eight of them
+--     header-bytes         one by one, as a word's bytes are cut off
+--     table-parts          the table is the header and then the entries
+--     table-length         8 + p^2 bytes
+--     byte-made            so its bytes are made from the header's and from entries for which the base is known modulo p
+use Prim.Native.Nat.{ℕ, _+_, _*_, _/_, _%_, _^_, _≤_}
+use mathlib.Core.Path.{_≡_, refl, sym, ap, _∙_, fun-ext}
+use mathlib.Core.List.{List, [], _∷_, _++_}
+use native.Mathlib.Nat.{mul-le-mul, div-one}
+use native.Mathlib.Omega.{arith}
+use lib.ListN.{length}
+use Rattle.polynomials.specs.Indices.{upto}
+use Rattle.polynomials.specs.IndexLaws.{length-upto}
+use Rattle.polynomials.specs.Lists.{coefficient}
+use Rattle.polynomials.specs.Places.{entry}
+use Rattle.polynomials.specs.TableLaws.{entry-base}
+use Rattle.layout.specs.Numbers.{bigEndian}
+use Rattle.packed.specs.Limits.{largestTableModulus}
+use Rattle.packed.specs.Tables.{entries, tableVersion, tableBody, table, headerSize, tableSize}
+
+pub square-most : (p : ℕ) → p ≤ largestTableModulus → p * p ≤ 16129
+square-most p h = mul-le-mul {n₁ = p} {m₁ = p} h h
+
+abbrev pub header : ℕ → ℕ → List ℕ
+header p t = bigEndian 4 (4 + p * p) ++ (tableVersion ∷ (bigEndian 2 p ++ bigEndian 1 t))
+
+pub header-length : (p t : ℕ) → length (header p t) ≡ headerSize
+header-length p t = refl
+
+pub header-bytes : (p t : ℕ) → header p t
+    ≡ ((4 + p * p) / 2 ^ 24 % 256) ∷ ((4 + p * p) / 2 ^ 16 % 256) ∷ ((4 + p * p) / 2 ^ 8 % 256) ∷ ((4 + p * p) % 256) ∷ tableVersion ∷ (p / 2 ^ 8 % 256) ∷ (p % 256) ∷ (t % 256) ∷ []
+header-bytes p t = rw (div-one (4 + p * p), div-one p, div-one t)
+
+body-length : (p t : ℕ) → length (tableBody p t) ≡ 4 + p * p
+body-length p t = omega (arith, length-upto (p * p) (entry p (2 ^ t)))
+
+pub table-parts : (p t : ℕ) → table p t ≡ header p t ++ entries p t
+unfolding table
+table-parts p t = rw (body-length p t)
+
+pub table-length : (p t : ℕ) → length (table p t) ≡ tableSize p
+table-length p t = ap length (table-parts p t) ∙ omega (arith, length-upto (p * p) (entry p (2 ^ t)))
+
+pub byte-made : (p t b i byte : ℕ) (head : List ℕ) → head ≡ header p t → b ≡ 2 ^ t → byte ≡ coefficient (head ++ upto (p * p) (entry p (b % p))) i
+    → byte ≡ coefficient (table p t) i
+byte-made p t b i byte head h e is =
+    let made : head ++ upto (p * p) (entry p (b % p)) ≡ table p t = rw (h, e, table-parts) (ap (λ (f : ℕ → ℕ). header p t ++ upto (p * p) f) (fun-ext (entry-base p (2 ^ t)))) in
+    is ∙ ap (λ (l : List ℕ). coefficient l i) made

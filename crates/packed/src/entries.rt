@@ -1,0 +1,147 @@
+// A correction table's bytes, and what is looked up among its entries. As in `words`, nothing is refused here: each function states what
+// it assumes.
+ghost use mathlib.Core.Path.{_≡_};
+ghost use mathlib.Core.List.{_++_};
+ghost use Prim.Native.Nat.{_-_, _*_, _^_, _<_, _≤_};
+ghost use lib.ListN.{length};
+ghost use Rattle.polynomials.specs.Indices.{upto, filled};
+ghost use Rattle.polynomials.specs.Lists.{coefficient};
+ghost use Rattle.polynomials.specs.Places.{packed, entry, lookedUp};
+ghost use Rattle.layout.specs.Beginnings.{firstDifference};
+ghost use Rattle.packed.specs.Limits.{largestModulus, largestTableModulus, wordBits};
+ghost use Rattle.packed.specs.Bounds.{Bounds};
+ghost use Rattle.packed.specs.Tables.{entries, table, headerSize, tableSize, reducedWordAt};
+ghost use Rattle.packed.specs.TableLaws.{header};
+use crate::setting::Setting;
+use crate::words::places;
+use crate::words::power;
+
+// The bytes before the entries.
+pub const HEADER_SIZE: usize = 8;
+
+const VERSION: u8 = 1;
+
+// 8 + p^2
+pub fn table_size(p: u64) -> usize
+    requires { ⌜ p ≤ largestTableModulus ⌝ }
+    ensures { λ r. ⌜ r ≡ tableSize p ⌝ }
+{
+    HEADER_SIZE + (p * p) as usize
+}
+
+// The whole table, into the first bytes.
+pub fn write_table(p: u64, t: u64, out: &mut [u8])
+    requires { ⌜ (0 < p) × (p ≤ largestTableModulus) × (t < wordBits) × (tableSize p ≤ length (now out)) ⌝ }
+    ensures { λ _. ⌜ now (out .exit) ≡ filled (tableSize p) (coefficient (table p t)) (now (out .entry)) ⌝ }
+{
+    let end = table_size(p);
+    let head = header_bytes(p, t);
+    let q = power(t) % p;
+    let mut i = 0;
+    while i < end {
+        out[i] = table_byte(p, q, head, i);
+        i += 1;
+    }
+}
+
+// The first byte at which the buffer is not the table, also where it has ended; the table's size where there is none.
+pub fn first_difference(p: u64, t: u64, buffer: &[u8]) -> usize
+    requires { ⌜ (0 < p) × (p ≤ largestTableModulus) × (t < wordBits) ⌝ }
+    ensures { λ r. ⌜ r ≡ firstDifference (now (buffer .entry)) (table p t) ⌝ }
+{
+    let end = table_size(p);
+    let head = header_bytes(p, t);
+    let q = power(t) % p;
+    let mut i = 0;
+    while i < end {
+        if buffer.len() <= i {
+            return i;
+        }
+        if buffer[i] != table_byte(p, q, head, i) {
+            return i;
+        }
+        i += 1;
+    }
+    i
+}
+
+// Byte i: of the header, or past it an entry.
+fn table_byte(p: u64, q: u64, head: [u8; 8], i: usize) -> u8
+    requires { ⌜ (0 < p) × (p ≤ largestTableModulus) × (q < p) × (length head ≡ headerSize) × (i < tableSize p) ⌝ }
+    ensures { λ r. ⌜ r ≡ coefficient (head ++ upto (p * p) (entry p q)) i ⌝ }
+{
+    if i < HEADER_SIZE {
+        return head[i];
+    }
+    table_entry(p, q, (i - HEADER_SIZE) as u64)
+}
+
+// Four bytes of how many follow, the version, two of p, one of t, the highest byte of a number first.
+fn header_bytes(p: u64, t: u64) -> [u8; 8]
+    requires { ⌜ (p ≤ largestTableModulus) × (t < wordBits) ⌝ }
+    ensures { λ r. ⌜ r ≡ header p t ⌝ }
+{
+    let follow = 4 + p * p;
+    [
+        ((follow >> 24) % 256) as u8,
+        ((follow >> 16) % 256) as u8,
+        ((follow >> 8) % 256) as u8,
+        (follow % 256) as u8,
+        VERSION,
+        ((p >> 8) % 256) as u8,
+        (p % 256) as u8,
+        (t % 256) as u8,
+    ]
+}
+
+// Entry j = u + p v: (u - q v) mod p. Instead of q v, which is to be taken away, (p - q) v is added.
+fn table_entry(p: u64, q: u64, j: u64) -> u8
+    requires { ⌜ (0 < p) × (p ≤ largestTableModulus) × (q < p) ⌝ }
+    ensures { λ r. ⌜ r ≡ entry p q j ⌝ }
+{
+    ((j % p + (p - q) * (j / p)) % p) as u8
+}
+
+// Every word reduced by the setting's own entries.
+pub fn reduce_words(s: Setting, held: &[u8], words: &[u64], out: &mut [u64])
+    requires { ⌜ (Bounds s) × (now held ≡ entries (s .p) (s .t)) × (length (now words) ≤ length (now out)) ⌝ }
+    ensures { λ _. ⌜ now (out .exit) ≡ filled (length (now (words .entry))) (reducedWordAt s (now (words .entry))) (now (out .entry)) ⌝ }
+{
+    let m = places(s.k);
+    let mut i = 0;
+    while i < words.len() {
+        out[i] = look_up(s.p, s.t, m, held, words[i]);
+        i += 1;
+    }
+}
+
+// The word whose field i is what stands among the entries at u_i + p u_(i+1), for the m lowest places: one division by p gives all the u,
+// as in split_shifted, and each place is looked up once. The entries may be any p^2 bytes of which the word has room.
+fn look_up(p: u64, t: u64, m: usize, held: &[u8], word: u64) -> u64
+    requires { ⌜ (0 < p) × (p ≤ largestModulus) × (t < wordBits) × ((m - 1) * t < wordBits) × (p * p ≤ length (now held)) × (packed (2 ^ t) (upto m (lookedUp p (2 ^ t) (now held) word)) < 2 ^ wordBits) ⌝ }
+    ensures { λ r. ⌜ r ≡ packed (2 ^ t) (upto m (lookedUp p (2 ^ t) (now (held .entry)) word)) ⌝ }
+{
+    let mut rest = word;
+    let mut quotient = word / p;
+    let mut u = rest - p * quotient;
+    let mut at = 0u64;
+    let mut w = 0u64;
+    let mut i = 0;
+    while i < m {
+        rest = rest >> t;
+        quotient = quotient >> t;
+        let above = rest - p * quotient;
+        let place = (u + p * above) as usize;
+        w = w + (wide_byte(held[place]) << at);
+        u = above;
+        at = at + t;
+        i += 1;
+    }
+    w
+}
+
+fn wide_byte(x: u8) -> u64
+    ensures { λ r. ⌜ r ≡ x ⌝ }
+{
+    x as u64
+}
