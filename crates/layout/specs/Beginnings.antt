@@ -19,7 +19,7 @@ use lib.ListN.{length, take, drop, length-take}
 use lib.Seq.{getD-take, take-all, length-take-le}
 use borrow.Author.Tests.{le-leb, lt-leb, leb-false, eq-eqb, ne-eqb, eqb-true, not-false}
 use Rattle.polynomials.specs.Indices.{first, First}
-use Rattle.polynomials.specs.IndexLaws.{first-is, first-only}
+use Rattle.polynomials.specs.IndexLaws.{first-is, first-only, first-none}
 use Rattle.polynomials.specs.Lists.{coefficient}
 use Rattle.polynomials.specs.ListLaws.{lists-agree}
 
@@ -85,7 +85,7 @@ through : (buf bs : List ℕ) → length bs ≤ firstDifference buf bs → take 
 through buf bs h = go (decLe (length bs) (length buf))
   where
     at : (i : ℕ) → i < length bs → (i < length buf) × (coefficient buf i ≡ coefficient bs i)
-    at i l = agrees buf bs i .0 (first-is (differs buf bs) (length bs) 0 .none-before i (omega arith) (omega arith))
+    at i l = agrees buf bs i .0 (first-none (differs buf bs) (length bs) .0 h i l)
 
     go : Dec (length bs ≤ length buf) → take (length bs) buf ≡ bs
     go (yes l) =

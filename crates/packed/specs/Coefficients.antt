@@ -20,7 +20,7 @@ use lib.Dec.{leb, ltb}
 use lib.ListN.{length}
 use borrow.Author.Tests.{lt-leb, leb-false, le-ltb, ltb-true, ltb-false}
 use Rattle.polynomials.specs.Indices.{pick, first}
-use Rattle.polynomials.specs.IndexLaws.{first-is, first-only}
+use Rattle.polynomials.specs.IndexLaws.{first-none}
 use Rattle.polynomials.specs.Lists.{coefficient, Below, Operand}
 use Rattle.polynomials.specs.ListLaws.{coefficient-past}
 use Rattle.packed.specs.Answers.{Verdict, fine, refuse}
@@ -41,23 +41,21 @@ coefficientCheck p xs = refuse (ltb (firstBad p xs) (length xs)) 8 (firstBad p x
 abbrev pub coefficientsCheck : ℕ → List ℕ → List ℕ → Verdict
 coefficientsCheck p xs ys = refuse (ltb (firstBadOfTwo p xs ys) (length xs + length ys)) 8 (firstBadOfTwo p xs ys)
 
--- no index is bad: every coefficient is below p, also the zeros past the end
-none-bad : (p : ℕ) (xs : List ℕ) → 0 < p → length xs ≤ firstBad p xs → Below p xs
-none-bad p xs hp h j = go (decLt j (length xs))
+-- no index is bad exactly where every coefficient is below p, also the zeros past the end
+none-bad : (p : ℕ) (xs : List ℕ) → 0 < p → (length xs ≤ firstBad p xs) ↔ Below p xs
+none-bad p xs hp = (
+  λ h j. go (first-none (tooLarge p xs) (length xs) .0 h) j (decLt j (length xs)),
+  λ b. first-none (tooLarge p xs) (length xs) .1 (λ j l. lt-leb p (coefficient xs j) (b j)),
+)
   where
-    go : Dec (j < length xs) → coefficient xs j < p
-    go (yes l) = leb-false p (coefficient xs j) (first-is (tooLarge p xs) (length xs) 0 .none-before j (omega arith) (omega arith))
-    go (no l) = rw (coefficient-past xs j (omega arith)) hp
-
-all-below : (p : ℕ) (xs : List ℕ) → Below p xs → firstBad p xs ≡ length xs
-all-below p xs h =
-    first-only (tooLarge p xs) (length xs) 0 (firstBad p xs) (length xs) (first-is (tooLarge p xs) (length xs) 0)
-    (record { low = omega arith; high = omega arith; none-before = λ j a b. lt-leb p (coefficient xs j) (h j); holds = λ a. absurd (omega arith) })
+    go : ((j : ℕ) → j < length xs → tooLarge p xs j ≡ false) → (j : ℕ) → Dec (j < length xs) → coefficient xs j < p
+    go none j (yes l) = leb-false p (coefficient xs j) (none j l)
+    go none j (no l) = rw (coefficient-past xs j (omega arith)) hp
 
 pub coefficient-check : (p : ℕ) (xs : List ℕ) → 0 < p → (coefficientCheck p xs ≡ fine) ↔ Below p xs
 coefficient-check p xs hp = (
-  λ e. none-bad p xs hp (ltb-false (firstBad p xs) (length xs) (passed-last (ltb (firstBad p xs) (length xs)) 8 (firstBad p xs) e)),
-  λ h. rw (le-ltb (firstBad p xs) (length xs) (omega (arith, all-below p xs h))),
+  λ e. none-bad p xs hp .0 (ltb-false (firstBad p xs) (length xs) (passed-last (ltb (firstBad p xs) (length xs)) 8 (firstBad p xs) e)),
+  λ h. rw (le-ltb (firstBad p xs) (length xs) (none-bad p xs hp .1 h)),
 )
 
 two-none : (p : ℕ) (xs ys : List ℕ) (inFirst : Bool) → ltb (firstBad p xs) (length xs) ≡ inFirst → length xs + length ys ≤ pick inFirst (firstBad p xs) (length xs + firstBad p ys)
@@ -68,9 +66,9 @@ two-none p xs ys false e h = (ltb-false (firstBad p xs) (length xs) e, omega ari
 pub coefficients-check : (p : ℕ) (xs ys : List ℕ) → 0 < p → (coefficientsCheck p xs ys ≡ fine) ↔ (Below p xs × Below p ys)
 coefficients-check p xs ys hp = (
   λ e. let none = two-none p xs ys (ltb (firstBad p xs) (length xs)) refl (ltb-false (firstBadOfTwo p xs ys) (length xs + length ys) (passed-last (ltb (firstBadOfTwo p xs ys) (length xs + length ys)) 8 (firstBadOfTwo p xs ys) e)) in
-      (none-bad p xs hp (none .0), none-bad p ys hp (none .1)),
-  λ h. let good : ltb (firstBad p xs) (length xs) ≡ false = le-ltb (firstBad p xs) (length xs) (omega (arith, all-below p xs (h .0))) in
-      rw (good, le-ltb (length xs + firstBad p ys) (length xs + length ys) (omega (arith, all-below p ys (h .1)))),
+      (none-bad p xs hp .0 (none .0), none-bad p ys hp .0 (none .1)),
+  λ h. let good : ltb (firstBad p xs) (length xs) ≡ false = le-ltb (firstBad p xs) (length xs) (none-bad p xs hp .1 (h .0)) in
+      rw (good, le-ltb (length xs + firstBad p ys) (length xs + length ys) (omega (arith, none-bad p ys hp .1 (h .1)))),
 )
 
 -- ---- what packing takes

@@ -1,19 +1,21 @@
 -- The starred examples of document 01, as one table: what the definitions give, beside what the document prints.
 --     Row                a row of the table, both sides in numbers
 --     value, none        what the document prints: a width or a word; "None", which is refusal 7
---     written            what it prints of a call that fills a list of three: the list
+--     written            what it prints of a call that fills a list or a buffer: its elements
 --     starred            the table
 --     starred-agree      every row's two sides are the same, by computing the left ones
 use Prim.Native.Nat.{ℕ, _*_}
 use mathlib.Core.Path.{_≡_, refl}
 use mathlib.Core.List.{List, [], _∷_, map}
+use lib.ListN.{length, replicate}
 use Rattle.polynomials.specs.Indices.{upto, first}
 use Rattle.polynomials.specs.Places.{fields, shifted}
-use Rattle.packed.specs.Answers.{Answer, numbers, wrote, leftBy}
+use Rattle.packed.specs.Answers.{Answer, Verdict, numbers, wrote, leftBy}
 use Rattle.packed.specs.Settings.{base, places, settingChecks}
 use Rattle.packed.specs.Choices.{settingOf, escapes, smallestWidth, noneCause, chooseAnswer}
 use Rattle.packed.specs.Coefficients.{taken}
 use Rattle.packed.specs.Places.{wordChecks, placesChecks, packAnswer, reduceAnswer}
+use Rattle.packed.specs.Tables.{table, tableChecks, buildChecks}
 use Rattle.packed.specs.declared.setting.Setting.{Setting}
 
 pub record Row : Type 0 where
@@ -27,7 +29,7 @@ none : List ℕ
 none = 7 ∷ 0 ∷ []
 
 written : List ℕ → List ℕ
-written vs = 0 ∷ 0 ∷ 3 ∷ vs
+written vs = 0 ∷ 0 ∷ length vs ∷ vs
 
 answering : Answer ℕ → List ℕ → Row
 answering a prints = record { gives = numbers (λ v. v ∷ []) a; prints = prints }
@@ -45,17 +47,20 @@ packing xs prints = answering (packAnswer small xs) prints
 reducing : ℕ → List ℕ → Row
 reducing w prints = answering (reduceAnswer small w) prints
 
--- new elements for the word's places, into a list of three
-writing : ℕ → List ℕ → List ℕ → Row
-writing w new prints =
-    let checks = placesChecks small w 3 in
-    record { gives = numbers (λ m. m ∷ leftBy checks new (9 ∷ 9 ∷ 9 ∷ [])) (wrote checks new); prints = prints }
+-- new elements, into a list that has room for them and no more
+writing : (ℕ → Verdict) → List ℕ → List ℕ → Row
+writing checks new prints =
+    let len = length new in
+    record { gives = numbers (λ m. m ∷ leftBy (checks len) new (replicate len 9)) (wrote (checks len) new); prints = prints }
 
 unpacking : ℕ → List ℕ → Row
-unpacking w prints = writing w (fields (base small) (places small) w) prints
+unpacking w prints = writing (placesChecks small w) (fields (base small) (places small) w) prints
 
 shifting : ℕ → List ℕ → Row
-shifting w prints = writing w (upto (places small) (shifted (small .p) (base small) w)) prints
+shifting w prints = writing (placesChecks small w) (upto (places small) (shifted (small .p) (base small) w)) prints
+
+building : List ℕ → Row
+building prints = writing (buildChecks small) (table (small .p) (small .t)) prints
 
 pub starred : List Row
 starred =
@@ -74,8 +79,9 @@ starred =
     ∷ shifting 1122 (written (0 ∷ 1 ∷ 1 ∷ []))
     ∷ reducing 1122 (value 258)
     ∷ unpacking 258 (written (2 ∷ 0 ∷ 1 ∷ []))
+    ∷ building (written (0 ∷ 0 ∷ 0 ∷ 13 ∷ 1 ∷ 0 ∷ 3 ∷ 4 ∷ 0 ∷ 1 ∷ 2 ∷ 2 ∷ 0 ∷ 1 ∷ 1 ∷ 2 ∷ 0 ∷ []))
     ∷ []
 
 pub starred-agree : map (λ (r : Row). r .gives) starred ≡ map (λ (r : Row). r .prints) starred
-unfolding starred value none written answering choosing small packing reducing writing unpacking shifting chooseAnswer noneCause smallestWidth escapes first settingChecks wordChecks placesChecks packAnswer reduceAnswer taken
+unfolding starred value none written answering choosing small packing reducing writing unpacking shifting building chooseAnswer noneCause smallestWidth escapes first settingChecks wordChecks placesChecks packAnswer reduceAnswer taken table tableChecks buildChecks
 starred-agree = refl

@@ -5,21 +5,27 @@
 --     header-bytes         one by one, as a word's bytes are cut off
 --     table-parts          the table is the header and then the entries
 --     table-length         8 + p^2 bytes
+--     word-room, word-made what is looked up among the entries packs to the reduced word, which has room
 --     byte-made            so its bytes are made from the header's and from entries for which the base is known modulo p
-use Prim.Native.Nat.{ℕ, _+_, _*_, _/_, _%_, _^_, _≤_}
+use Prim.Native.Nat.{ℕ, _+_, _*_, _/_, _%_, _^_, _≤_, _<_}
 use mathlib.Core.Path.{_≡_, refl, sym, ap, _∙_, fun-ext}
 use mathlib.Core.List.{List, [], _∷_, _++_}
-use native.Mathlib.Nat.{mul-le-mul, div-one}
+use native.Mathlib.Nat.{mul-le-mul, div-one, lt-of-le-of-lt}
 use native.Mathlib.Omega.{arith}
 use lib.ListN.{length}
+use lib.Pow.{pow-pos}
 use Rattle.polynomials.specs.Indices.{upto}
 use Rattle.polynomials.specs.IndexLaws.{length-upto}
 use Rattle.polynomials.specs.Lists.{coefficient}
-use Rattle.polynomials.specs.Places.{entry}
-use Rattle.polynomials.specs.TableLaws.{entry-base}
+use Rattle.polynomials.specs.Places.{packed, reduced, entry, lookedUp}
+use Rattle.polynomials.specs.ReductionLaws.{reduced-most}
+use Rattle.polynomials.specs.TableLaws.{entry-base, looked-up-word}
 use Rattle.layout.specs.Numbers.{bigEndian}
-use Rattle.packed.specs.Limits.{largestTableModulus}
+use Rattle.packed.specs.Limits.{largestTableModulus, wordBits}
+use Rattle.packed.specs.Settings.{base, places}
+use Rattle.packed.specs.Places.{reducedWord}
 use Rattle.packed.specs.Tables.{entries, tableVersion, tableBody, table, headerSize, tableSize}
+use Rattle.packed.specs.declared.setting.Setting.{Setting}
 
 pub square-most : (p : ℕ) → p ≤ largestTableModulus → p * p ≤ 16129
 square-most p h = mul-le-mul {n₁ = p} {m₁ = p} h h
@@ -49,3 +55,14 @@ pub byte-made : (p t b i byte : ℕ) (head : List ℕ) → head ≡ header p t �
 byte-made p t b i byte head h e is =
     let made : head ++ upto (p * p) (entry p (b % p)) ≡ table p t = rw (h, e, table-parts) (ap (λ (f : ℕ → ℕ). header p t ++ upto (p * p) f) (fun-ext (entry-base p (2 ^ t)))) in
     is ∙ ap (λ (l : List ℕ). coefficient l i) made
+
+module _ (s : Setting) (held : List ℕ) (m w : ℕ) (p-pos : 0 < s .p) (own : held ≡ entries (s .p) (s .t)) where
+  -- what is looked up is the residues
+  found : packed (base s) (upto m (lookedUp (s .p) (base s) held w)) ≡ packed (base s) (upto m (reduced (s .p) (base s) w))
+  found = rw own (looked-up-word (s .p) (base s) m w p-pos)
+
+  pub word-room : w < 2 ^ wordBits → packed (base s) (upto m (lookedUp (s .p) (base s) held w)) < 2 ^ wordBits
+  word-room h = rw found (lt-of-le-of-lt (reduced-most (s .p) (base s) m w (pow-pos (s .t))) h)
+
+  pub word-made : (v : ℕ) → m ≡ places s → v ≡ packed (base s) (upto m (lookedUp (s .p) (base s) held w)) → v ≡ reducedWord s w
+  word-made v all is = is ∙ found ∙ rw all

@@ -4,11 +4,12 @@
 --     filled-more                                   a filling loop's turn at i
 --     sum-zero, sum-front, sum-same, sum-window     sums: of zeros; first term apart; term by term; of a window of terms
 --     first-is, first-only                          the search finds what First says, and First says it of one number only
+--     first-none                                    it is through exactly where the test holds at none of the numbers from 0
 --     first-found, first-passed, first-ended        a searching loop's turn at i: it stops, it goes on, it is through
 use Prim.Native.Nat.{ℕ, zero, suc, _+_, _-_, _*_, _≤_, _<_, min, zero-le}
 use mathlib.Core.Path.{_≡_, refl, sym, ap, _∙_, fun-ext}
 use mathlib.Core.Bool.{Bool, true, false, true≢false}
-use mathlib.Core.Logic.{⊎-elim}
+use mathlib.Core.Logic.{_↔_, ⊎-elim}
 use mathlib.Core.List.{List, [], _∷_}
 use native.Mathlib.Nat.{not-suc-le-zero, le-of-suc-le-suc, eq-or-lt-of-le, mul-le-mul-right, suc-mul}
 use native.Mathlib.Decide.{decLt}
@@ -124,3 +125,10 @@ first-only test n i r s a b = go (decLt r s) (decLt s r)
     go (yes h) d = absurd (no-earlier test n i r s a b h)
     go (no h) (yes g) = absurd (no-earlier test n i s r b a g)
     go (no h) (no g) = omega arith
+
+pub first-none : (test : ℕ → Bool) (n : ℕ) → (n ≤ first test n 0) ↔ ((j : ℕ) → j < n → test j ≡ false)
+first-none test n = (
+  λ h j l. first-is test n 0 .none-before j (omega arith) (omega arith),
+  λ none. let all : First test n 0 n = record { low = omega arith; high = omega arith; none-before = λ j a l. none j l; holds = λ a. absurd (omega arith) } in
+      omega (arith, first-only test n 0 (first test n 0) n (first-is test n 0) all),
+)

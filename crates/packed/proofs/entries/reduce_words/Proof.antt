@@ -1,17 +1,14 @@
 -- `reduce_words` meets its contract: after i turns the first i words stand reduced. Assumes nothing.
 use Prim.Native.Nat.{_-_, _*_, _^_, _≤_, _<_}
-use mathlib.Core.Path.{_≡_, refl, ap, _∙_}
-use native.Mathlib.Nat.{lt-of-le-of-lt}
+use mathlib.Core.Path.{_≡_, refl, ap}
 use native.Mathlib.Omega.{arith}
 use lib.ListN.{length, getD, length-set}
-use lib.Pow.{pow-pos}
 use denote.Ref.{now}
 use Rattle.polynomials.specs.Indices.{filled}
 use Rattle.polynomials.specs.IndexLaws.{length-upto, filled-more}
 use Rattle.polynomials.specs.Places.{entry}
-use Rattle.polynomials.specs.ReductionLaws.{reduced-most}
-use Rattle.polynomials.specs.TableLaws.{looked-up-word}
 use Rattle.packed.specs.Tables.{reducedWordAt}
+use Rattle.packed.specs.TableLaws.{word-room, word-made}
 use borrow.Author.Needs.{needs}
 use Rattle.packed.proofs.entries.reduce_words.Statement.{statement}
 use Rattle.packed.proofs.entries.reduce_words.Tie as tie
@@ -21,6 +18,9 @@ Inv-loop s held words out₀ m i₀ out i = (i ≤ length words) × (out ≡ fil
 
 abbrev μ-loop : tie.MeasureT-loop
 μ-loop s held words out₀ m i₀ out i = length words - i
+
+p-pos : (c : tie.Start Inv-loop μ-loop) → 0 < c .args .s .p
+p-pos c = omega (arith, c .pre .0 .range .choice .p-low)
 
 places-requires : tie.Need-places-requires Inv-loop μ-loop
 places-requires c κs = let choice = c .before .before .before .pre .0 .range .choice in (choice .k-low, choice .k-high)
@@ -38,16 +38,15 @@ look-up-requires : tie.Need-look-up-requires Inv-loop μ-loop
 look-up-requires c κs =
     let a = c .before .before .before .before .before .before .before .args in
     let pre = c .before .before .before .before .before .before .before .pre in
-    let b = pre .0 in
-    let p-pos : 0 < a .s .p = omega (arith, b .range .choice .p-low) in
-    let last : c .before .before .before .places .result - 1 ≡ 2 * a .s .k - 2 = omega (arith, c .before .before .before .places .ensures) in (
-      p-pos,
-      b .range .choice .p-high,
-      omega (arith, b .range .t-high),
-      rw last (b .last-place),
+    let range = pre .0 .range in
+    let m = c .before .before .before .places in
+    let last : m .result - 1 ≡ 2 * a .s .k - 2 = omega (arith, m .ensures) in (
+      p-pos (c .before .before .before .before .before .before .before),
+      range .choice .p-high,
+      omega (arith, range .t-high),
+      rw last (pre .0 .last-place),
       omega (arith, ap length (pre .1), length-upto (a .s .p * a .s .p) (entry (a .s .p) (2 ^ a .s .t))),
-      rw (pre .1, looked-up-word (a .s .p) (2 ^ a .s .t) (c .before .before .before .places .result) (getD (now (a .words)) (c .before .before .loop .i) 0) p-pos)
-          (lt-of-le-of-lt (reduced-most (a .s .p) (2 ^ a .s .t) (c .before .before .before .places .result) (getD (now (a .words)) (c .before .before .loop .i) 0) (pow-pos (a .s .t))) (c .shared-slice-known3 .given (c .before .before .loop .i) .fits)),
+      word-room (a .s) (now (a .held)) (m .result) (getD (now (a .words)) (c .before .before .loop .i) 0) (p-pos (c .before .before .before .before .before .before .before)) (pre .1) (c .shared-slice-known3 .given (c .before .before .loop .i) .fits),
     )
 
 mul-out : tie.Need-mul-out Inv-loop μ-loop
@@ -68,9 +67,9 @@ loop-again c =
     let l = c .before .before .before .loop in
     let m = c .before .before .before .before .places in
     let pre = c .before .before .before .before .before .before .before .before .pre in
-    let p-pos : 0 < a .s .p = omega (arith, pre .0 .range .choice .p-low) in
-    let same : c .look-up .result ≡ reducedWordAt (a .s) (now (a .words)) (l .i) = c .look-up .ensures ∙ rw (pre .1, m .ensures) (looked-up-word (a .s .p) (2 ^ a .s .t) (2 * a .s .k - 1) (getD (now (a .words)) (l .i) 0) p-pos) in
-    (omega arith, filled-more (reducedWordAt (a .s) (now (a .words))) (a .out .now) (l .out) (l .i) (c .look-up .result) (omega (arith, pre .2)) (l .inv .1) same, simp length-set (l .inv .2))
+    let v = c .look-up in
+    let same : v .result ≡ reducedWordAt (a .s) (now (a .words)) (l .i) = word-made (a .s) (now (a .held)) (m .result) (getD (now (a .words)) (l .i) 0) (p-pos (c .before .before .before .before .before .before .before .before)) (pre .1) (v .result) (m .ensures) (v .ensures) in
+    (omega arith, filled-more (reducedWordAt (a .s) (now (a .words))) (a .out .now) (l .out) (l .i) (v .result) (omega (arith, pre .2)) (l .inv .1) same, simp length-set (l .inv .2))
 
 same-length : tie.Need-same-length Inv-loop μ-loop
 same-length c = c .before .loop .inv .2
