@@ -1,13 +1,9 @@
 // Runs document 01's examples of pack, unpack, shifted residues and reduce, and inputs on both sides of the edge of every refusal that
 // they give, and prints what came. Lists are lent with sevens in them, and printed as far as they were lent.
-use libc::STDOUT_FILENO;
-use packed::answers::Packed;
-use packed::answers::Wrote;
 use packed::places::pack;
 use packed::places::reduce;
 use packed::places::shifted_residues;
 use packed::places::unpack;
-use packed::refusals::Refusal;
 use packed::setting::Setting;
 
 const ALL: u64 = 18446744073709551615;
@@ -199,103 +195,42 @@ fn reduce_ends() {
 }
 
 fn show_pack(p: u64, k: u64, t: u64, n: u64, xs: &[u16]) {
-    io::write_all(STDOUT_FILENO, b"pack");
-    show_setting(p, k, t, n);
-    io::write_all(STDOUT_FILENO, b" of");
-    show_coefficients(xs);
-    show_packed(pack(Setting { p, k, t, n }, xs));
+    lines::text(b"pack");
+    lines::setting(p, k, t, n);
+    lines::text(b" of");
+    lines::coefficients(xs);
+    lines::word(pack(Setting { p, k, t, n }, xs));
 }
 
 fn show_reduce(p: u64, k: u64, t: u64, n: u64, word: u64) {
-    io::write_all(STDOUT_FILENO, b"reduce");
-    show_setting(p, k, t, n);
-    io::write_all(STDOUT_FILENO, b" of");
-    show_next(word);
-    show_packed(reduce(Setting { p, k, t, n }, word));
+    lines::text(b"reduce");
+    lines::setting(p, k, t, n);
+    lines::text(b" of");
+    lines::number(word);
+    lines::word(reduce(Setting { p, k, t, n }, word));
 }
 
 fn show_unpack(p: u64, k: u64, t: u64, n: u64, word: u64, out: &mut [u64]) {
-    io::write_all(STDOUT_FILENO, b"unpack");
-    show_setting(p, k, t, n);
+    lines::text(b"unpack");
+    lines::setting(p, k, t, n);
     show_lending(word, out.len());
-    show_wrote(unpack(Setting { p, k, t, n }, word, out));
-    show_fields(out);
-    io::write_all(STDOUT_FILENO, b"\n");
+    lines::wrote(unpack(Setting { p, k, t, n }, word, out));
+    lines::words(out);
+    lines::end();
 }
 
 fn show_shifted(p: u64, k: u64, t: u64, n: u64, word: u64, out: &mut [u16]) {
-    io::write_all(STDOUT_FILENO, b"shifted");
-    show_setting(p, k, t, n);
+    lines::text(b"shifted");
+    lines::setting(p, k, t, n);
     show_lending(word, out.len());
-    show_wrote(shifted_residues(Setting { p, k, t, n }, word, out));
-    show_coefficients(out);
-    io::write_all(STDOUT_FILENO, b"\n");
-}
-
-fn show_setting(p: u64, k: u64, t: u64, n: u64) {
-    show_next(p);
-    show_next(k);
-    show_next(t);
-    show_next(n);
+    lines::wrote(shifted_residues(Setting { p, k, t, n }, word, out));
+    lines::coefficients(out);
+    lines::end();
 }
 
 fn show_lending(word: u64, lent: usize) {
-    io::write_all(STDOUT_FILENO, b" of");
-    show_next(word);
-    io::write_all(STDOUT_FILENO, b" into");
-    show_next(lent as u64);
-}
-
-fn show_packed(answer: Packed) {
-    match answer {
-        Packed::Word(w) => {
-            io::write_all(STDOUT_FILENO, b": word");
-            show_next(w);
-        }
-        Packed::Refused(r) => show_refusal(r),
-    }
-    io::write_all(STDOUT_FILENO, b"\n");
-}
-
-fn show_wrote(answer: Wrote) {
-    match answer {
-        Wrote::Count(m) => {
-            io::write_all(STDOUT_FILENO, b": wrote");
-            show_next(m as u64);
-        }
-        Wrote::Refused(r) => show_refusal(r),
-    }
-    io::write_all(STDOUT_FILENO, b":");
-}
-
-fn show_refusal(r: Refusal) {
-    io::write_all(STDOUT_FILENO, b": refused");
-    show_next(r.number);
-    show_next(r.place);
-}
-
-fn show_coefficients(xs: &[u16]) {
-    let mut i = 0;
-    while i < xs.len() {
-        show_next(wide(xs[i]));
-        i += 1;
-    }
-}
-
-fn show_fields(xs: &[u64]) {
-    let mut i = 0;
-    while i < xs.len() {
-        show_next(xs[i]);
-        i += 1;
-    }
-}
-
-fn wide(x: u16) -> u64 {
-    x as u64
-}
-
-// One more number of a line.
-fn show_next(n: u64) {
-    io::write_all(STDOUT_FILENO, b" ");
-    io::print_decimal(STDOUT_FILENO, n);
+    lines::text(b" of");
+    lines::number(word);
+    lines::text(b" into");
+    lines::number(lent as u64);
 }

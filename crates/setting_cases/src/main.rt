@@ -1,6 +1,4 @@
 // Runs document 01's examples of choose and check, and inputs on both sides of every edge of 1 to 7, and prints what came.
-use libc::STDOUT_FILENO;
-use packed::refusals::Refusal;
 use packed::setting::Checked;
 use packed::setting::Chosen;
 use packed::setting::Setting;
@@ -140,50 +138,34 @@ fn check_several() {
 }
 
 fn show_choice(p: u64, k: u64, n: u64) {
-    io::write_all(STDOUT_FILENO, b"choose ");
-    io::print_decimal(STDOUT_FILENO, p);
-    show_next(k);
-    show_next(n);
+    lines::text(b"choose");
+    lines::number(p);
+    lines::number(k);
+    lines::number(n);
     let chosen = choose(p, k, n);
     let Chosen::Width(t) = chosen else {
         show_unchosen(chosen);
         return;
     };
-    io::write_all(STDOUT_FILENO, b": width ");
-    io::print_decimal(STDOUT_FILENO, t);
-    io::write_all(STDOUT_FILENO, b"\n");
+    lines::text(b": width");
+    lines::number(t);
+    lines::end();
 }
 
 // What stands in the way of a width.
 fn show_unchosen(chosen: Chosen) {
     if let Chosen::Refused(r) = chosen {
-        show_refusal(r);
+        lines::refusal(r);
     }
+    lines::end();
 }
 
 fn show_check(p: u64, k: u64, t: u64, n: u64) {
-    io::write_all(STDOUT_FILENO, b"check ");
-    io::print_decimal(STDOUT_FILENO, p);
-    show_next(k);
-    show_next(t);
-    show_next(n);
+    lines::text(b"check");
+    lines::setting(p, k, t, n);
     match check(Setting { p, k, t, n }) {
-        Checked::Accepted => {
-            io::write_all(STDOUT_FILENO, b": accepted\n");
-        }
-        Checked::Refused(r) => show_refusal(r),
+        Checked::Accepted => lines::text(b": accepted"),
+        Checked::Refused(r) => lines::refusal(r),
     }
-}
-
-fn show_refusal(r: Refusal) {
-    io::write_all(STDOUT_FILENO, b": refused ");
-    io::print_decimal(STDOUT_FILENO, r.number);
-    show_next(r.place);
-    io::write_all(STDOUT_FILENO, b"\n");
-}
-
-// One more number of a line.
-fn show_next(n: u64) {
-    io::write_all(STDOUT_FILENO, b" ");
-    io::print_decimal(STDOUT_FILENO, n);
+    lines::end();
 }

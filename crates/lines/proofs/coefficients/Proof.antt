@@ -1,9 +1,9 @@
--- `show_coefficients` ends, and reads within the list. Assumes nothing.
+-- `coefficients` ends, and reads within the list. Assumes nothing.
 use Prim.Native.Nat.{_-_, _≤_}
 use lib.ListN.{length}
 use borrow.Author.Needs.{needs}
-use Rattle.places_cases.proofs.show_coefficients.Statement.{statement}
-use Rattle.places_cases.proofs.show_coefficients.Tie as tie
+use Rattle.lines.proofs.coefficients.Statement.{statement}
+use Rattle.lines.proofs.coefficients.Tie as tie
 
 abbrev Inv-loop : tie.InvT-loop
 Inv-loop xs i₀ i = i ≤ length xs
@@ -23,8 +23,8 @@ shared-slice-read-wide c = search needs
 wide-requires : tie.Need-wide-requires Inv-loop μ-loop
 wide-requires c κs = search needs
 
-show-next-requires : tie.Need-show-next-requires Inv-loop μ-loop
-show-next-requires c κs = search needs
+number-requires : tie.Need-number-requires Inv-loop μ-loop
+number-requires c κs = search needs
 
 add-i : tie.Need-add-i Inv-loop μ-loop
 add-i c = search needs
@@ -38,8 +38,8 @@ loop-again c = search needs
 returns : tie.Need-returns Inv-loop μ-loop
 returns c = search needs
 
-pub show-coefficients-spec : {M : Type 1} → statement M
-show-coefficients-spec =
+pub coefficients-spec : {M : Type 1} → statement M
+coefficients-spec =
     tie.close
     (tie.spec
     Inv-loop
@@ -48,7 +48,7 @@ show-coefficients-spec =
     mul-wide
     shared-slice-read-wide
     wide-requires
-    show-next-requires
+    number-requires
     add-i
     loop-less
     loop-again

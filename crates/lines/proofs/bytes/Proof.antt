@@ -1,9 +1,9 @@
--- `show_fields` ends, and reads within the list. Assumes nothing.
+-- `bytes` ends, and reads within the list. Assumes nothing.
 use Prim.Native.Nat.{_-_, _≤_}
 use lib.ListN.{length}
 use borrow.Author.Needs.{needs}
-use Rattle.places_cases.proofs.show_fields.Statement.{statement}
-use Rattle.places_cases.proofs.show_fields.Tie as tie
+use Rattle.lines.proofs.bytes.Statement.{statement}
+use Rattle.lines.proofs.bytes.Tie as tie
 
 abbrev Inv-loop : tie.InvT-loop
 Inv-loop xs i₀ i = i ≤ length xs
@@ -14,14 +14,14 @@ abbrev μ-loop : tie.MeasureT-loop
 loop-holds : tie.Need-loop-holds Inv-loop μ-loop
 loop-holds c = search needs
 
-mul-show-next : tie.Need-mul-show-next Inv-loop μ-loop
-mul-show-next c = search needs
+shared-slice-read-wide-byte : tie.Need-shared-slice-read-wide-byte Inv-loop μ-loop
+shared-slice-read-wide-byte c = search needs
 
-shared-slice-read-show-next : tie.Need-shared-slice-read-show-next Inv-loop μ-loop
-shared-slice-read-show-next c = search needs
+wide-byte-requires : tie.Need-wide-byte-requires Inv-loop μ-loop
+wide-byte-requires c κs = search needs
 
-show-next-requires : tie.Need-show-next-requires Inv-loop μ-loop
-show-next-requires c κs = search needs
+number-requires : tie.Need-number-requires Inv-loop μ-loop
+number-requires c κs = search needs
 
 add-i : tie.Need-add-i Inv-loop μ-loop
 add-i c = search needs
@@ -35,16 +35,16 @@ loop-again c = search needs
 returns : tie.Need-returns Inv-loop μ-loop
 returns c = search needs
 
-pub show-fields-spec : {M : Type 1} → statement M
-show-fields-spec =
+pub bytes-spec : {M : Type 1} → statement M
+bytes-spec =
     tie.close
     (tie.spec
     Inv-loop
     μ-loop
     loop-holds
-    mul-show-next
-    shared-slice-read-show-next
-    show-next-requires
+    shared-slice-read-wide-byte
+    wide-byte-requires
+    number-requires
     add-i
     loop-less
     loop-again
