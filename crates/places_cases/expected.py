@@ -4,21 +4,11 @@
 Worked out by document 01's words in whole numbers, with no code of the crates; where the document prints a value, that value is
 asserted here too. The inputs are written out again, so a case that the program lacks shows as a difference."""
 
-ALL = 2**64 - 1
-SEVEN = 7
+import os
+import sys
 
-
-def setting(p, k, t, n):
-    """The number of the first of 1 to 6 whose cause holds, or 0."""
-    causes = [
-        (1, lambda: not 2 <= p <= 65536),
-        (2, lambda: not 1 <= k <= 8),
-        (3, lambda: not 1 <= n <= 1048576),
-        (4, lambda: not 1 <= t <= 63),
-        (5, lambda: 2**t <= n * k * (p - 1) ** 2),
-        (6, lambda: (2 * k - 1) * t >= 64),
-    ]
-    return next((number for number, holds in causes if holds()), 0)
+sys.path.insert(0, os.path.join(os.path.dirname(os.path.abspath(__file__)), "..", "..", "expected"))
+from document import ALL, SEVEN, check, words
 
 
 def fields(k, t, word):
@@ -32,8 +22,8 @@ def fields(k, t, word):
 
 def pack(s, xs):
     p, k, t, n = s
-    if setting(*s):
-        return "refused %d 0" % setting(*s)
+    if check(*s):
+        return "refused %d 0" % check(*s)
     if len(xs) != k:
         return "refused 9 0"
     bad = [i for i, x in enumerate(xs) if x >= p]
@@ -44,7 +34,7 @@ def pack(s, xs):
 
 def refused_word(s, word):
     p, k, t, n = s
-    return setting(*s) or (11 if word >= 2 ** ((2 * k - 1) * t) else 0)
+    return check(*s) or (11 if word >= 2 ** ((2 * k - 1) * t) else 0)
 
 
 def reduce(s, word):
@@ -73,13 +63,6 @@ def unpack(s, word, lent):
 def shifted(s, word, lent):
     p, k, t, n = s
     return into(s, word, lent, lambda: [word // (2**t) ** i % p for i in range(2 * k - 1)])
-
-
-def words(*parts):
-    flat = []
-    for part in parts:
-        flat += part if isinstance(part, (list, tuple)) else [part]
-    return " ".join(str(x) for x in flat)
 
 
 def show_pack(p, k, t, n, *xs):

@@ -4,33 +4,11 @@
 Worked out by document 01's rows in whole numbers, with no code of the crates; where the document prints a value, that value is
 asserted here too. The inputs are written out again, so a case that the program lacks shows as a difference."""
 
-ALL = 2**64 - 1
+import os
+import sys
 
-
-def ranges(p, k, n):
-    if not 2 <= p <= 65536:
-        return 1
-    if not 1 <= k <= 8:
-        return 2
-    if not 1 <= n <= 1048576:
-        return 3
-    return 0
-
-
-def narrow_or_no_room(p, k, t, n):
-    if 2**t <= n * k * (p - 1) ** 2:
-        return 5
-    if (2 * k - 1) * t >= 64:
-        return 6
-    return 0
-
-
-def check(p, k, t, n):
-    if ranges(p, k, n):
-        return ranges(p, k, n)
-    if not 1 <= t <= 63:
-        return 4
-    return narrow_or_no_room(p, k, t, n)
+sys.path.insert(0, os.path.join(os.path.dirname(os.path.abspath(__file__)), "..", "..", "expected"))
+from document import ALL, check, narrow_or_no_room, ranges
 
 
 def choose(p, k, n):

@@ -5,25 +5,15 @@ Worked out by document 01's words in whole numbers, with no code of the crates; 
 too. Words are reduced field by field, without a table. The inputs are written out again, so a case that the program lacks shows as a
 difference."""
 
-ALL = 2**64 - 1
-SEVEN = 7
+import os
+import sys
 
-
-def setting(p, k, t, n):
-    """The number of the first of 1 to 6 whose cause holds, or 0."""
-    causes = [
-        (1, lambda: not 2 <= p <= 65536),
-        (2, lambda: not 1 <= k <= 8),
-        (3, lambda: not 1 <= n <= 1048576),
-        (4, lambda: not 1 <= t <= 63),
-        (5, lambda: 2**t <= n * k * (p - 1) ** 2),
-        (6, lambda: (2 * k - 1) * t >= 64),
-    ]
-    return next((number for number, holds in causes if holds()), 0)
+sys.path.insert(0, os.path.join(os.path.dirname(os.path.abspath(__file__)), "..", "..", "expected"))
+from document import ALL, SEVEN, check, words
 
 
 def no_table(s):
-    return setting(*s) or (14 if s[0] > 127 else 0)
+    return check(*s) or (14 if s[0] > 127 else 0)
 
 
 def table(p, t):
@@ -92,13 +82,6 @@ def built(p, t, lent):
     assert any(not no_table((p, k, t, 1)) for k in (1, 2, 8))
     made = table(p, t)
     return list(made) + [SEVEN] * (lent - len(made))
-
-
-def words(*parts):
-    flat = []
-    for part in parts:
-        flat += part if isinstance(part, (list, tuple)) else [part]
-    return " ".join(str(x) for x in flat)
 
 
 def show_build(*case):

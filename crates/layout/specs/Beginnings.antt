@@ -7,18 +7,18 @@
 --     starts-with               startsWith says that cutting the buffer to their length gives the bytes
 --     starts-with-first         a search for the first difference tells it
 --     first-difference          the first differing byte, or the buffer's length if it ends first
-use Prim.Native.Nat.{ℕ, zero, suc, _≤_, _<_}
+use Prim.Native.Nat.{ℕ, _≤_, _<_}
 use mathlib.Core.Path.{_≡_, refl, sym, ap, _∙_}
 use mathlib.Core.Bool.{Bool, true, false, not, _||_, _&&_, true≢false}
 use mathlib.Core.List.{List, [], _∷_}
 use mathlib.Core.Logic.{_↔_}
-use native.Mathlib.Decide.{decLt, decLe}
+use native.Mathlib.Decide.{decLe}
 use native.Mathlib.Omega.{arith}
 use lib.Dec.{leb, eqb}
 use lib.ListN.{length, take, drop, length-take}
 use lib.Seq.{getD-take, take-all, length-take-le}
 use borrow.Author.Tests.{le-leb, lt-leb, leb-false, eq-eqb, ne-eqb, eqb-true, not-false}
-use Rattle.polynomials.specs.Indices.{first, First}
+use Rattle.polynomials.specs.Indices.{first}
 use Rattle.polynomials.specs.IndexLaws.{first-is, first-only, first-none}
 use Rattle.polynomials.specs.Lists.{coefficient}
 use Rattle.polynomials.specs.ListLaws.{lists-agree}

@@ -9,7 +9,6 @@ use mathlib.Core.Path.{_≡_, refl, sym, ap, _∙_}
 use mathlib.Core.Bool.{true, false, not}
 use mathlib.Core.List.{List}
 use mathlib.Core.Logic.{_↔_}
-use native.Mathlib.Omega.{arith}
 use lib.Dec.{ltb}
 use lib.ListN.{length, drop, List·getD-append}
 use borrow.Author.Tests.{le-ltb, ltb-false, not-false}
@@ -17,7 +16,7 @@ use Rattle.polynomials.specs.Indices.{filled}
 use Rattle.polynomials.specs.IndexLaws.{length-upto, upto-at, first-none}
 use Rattle.polynomials.specs.Lists.{coefficient}
 use Rattle.layout.specs.Beginnings.{firstDifference}
-use Rattle.packed.specs.Answers.{fine, refuse}
+use Rattle.packed.specs.Answers.{fine}
 use Rattle.packed.specs.AnswerLaws.{passed, passed-first, passed-last}
 use Rattle.packed.specs.SharedAnswers.{shortCause, writes-once, writes-filled}
 use Rattle.packed.specs.Settings.{settingChecks}

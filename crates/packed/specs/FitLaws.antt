@@ -28,7 +28,7 @@ use Rattle.packed.specs.AnswerLaws.{passed-first, passed-last}
 use Rattle.packed.specs.Settings.{settingChecks, base}
 use Rattle.packed.specs.Tables.{entries, table, headerSize, tableSize, noTableCause, fits, tableChecks}
 use Rattle.packed.specs.Bounds.{Bounds, bounds}
-use Rattle.packed.specs.TableLaws.{header, table-parts, table-length}
+use Rattle.packed.specs.TableLaws.{header, header-length, table-parts, table-length}
 use Rattle.packed.specs.declared.setting.Setting.{Setting}
 
 pub record Tabled (s : Setting) : Type 0 where
@@ -90,7 +90,7 @@ module _ (s : Setting) (buf : List ℕ) where
 
   pub fits-header : fits s buf ≡ true → take headerSize buf ≡ header (s .p) (s .t)
   fits-header e =
-      sym (take-take headerSize (tableSize (s .p)) buf (omega arith)) ∙ ap (take headerSize) (whole e) ∙ take-at (header (s .p) (s .t)) (entries (s .p) (s .t)) headerSize refl
+      sym (take-take headerSize (tableSize (s .p)) buf (omega arith)) ∙ ap (take headerSize) (whole e) ∙ take-at (header (s .p) (s .t)) (entries (s .p) (s .t)) headerSize (header-length (s .p) (s .t))
 
 pub fits-only : (a b : Setting) (buf : List ℕ) → Tabled a → Tabled b → fits a buf ≡ true → fits b buf ≡ true → (a .p ≡ b .p) × (a .t ≡ b .t)
 fits-only a b buf ha hb ea eb =

@@ -8,7 +8,7 @@
 --     word-room, word-made what is looked up among the entries packs to the reduced word, which has room
 --     byte-made            so its bytes are made from the header's and from entries for which the base is known modulo p
 use Prim.Native.Nat.{ℕ, _+_, _*_, _/_, _%_, _^_, _≤_, _<_}
-use mathlib.Core.Path.{_≡_, refl, sym, ap, _∙_, fun-ext}
+use mathlib.Core.Path.{_≡_, refl, ap, _∙_, fun-ext}
 use mathlib.Core.List.{List, [], _∷_, _++_}
 use native.Mathlib.Nat.{mul-le-mul, div-one, lt-of-le-of-lt}
 use native.Mathlib.Omega.{arith}

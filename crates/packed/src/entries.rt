@@ -49,11 +49,11 @@ pub fn first_difference(p: u64, t: u64, buffer: &[u8]) -> usize
     requires { ⌜ (0 < p) × (p ≤ largestTableModulus) × (t < wordBits) ⌝ }
     ensures { λ r. ⌜ r ≡ firstDifference (now (buffer .entry)) (table p t) ⌝ }
 {
-    let end = table_size(p);
+    let size = table_size(p);
     let head = header_bytes(p, t);
     let q = power(t) % p;
     let mut i = 0;
-    while i < end {
+    while i < size {
         if buffer.len() <= i {
             return i;
         }
@@ -124,7 +124,7 @@ fn look_up(p: u64, t: u64, m: usize, held: &[u8], word: u64) -> u64
     let mut rest = word;
     let mut quotient = word / p;
     let mut u = rest - p * quotient;
-    let mut at = 0u64;
+    let mut weight = 1u64;
     let mut w = 0u64;
     let mut i = 0;
     while i < m {
@@ -132,9 +132,9 @@ fn look_up(p: u64, t: u64, m: usize, held: &[u8], word: u64) -> u64
         quotient = quotient >> t;
         let above = rest - p * quotient;
         let place = (u + p * above) as usize;
-        w = w + (wide_byte(held[place]) << at);
+        w = w + wide_byte(held[place]) * weight;
+        weight = weight << t;
         u = above;
-        at = at + t;
         i += 1;
     }
     w

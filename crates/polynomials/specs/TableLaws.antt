@@ -1,6 +1,5 @@
 -- A correction table's entries, in any base. Assumes nothing.
 --     entry-at         entry u + p v is (u - q v) mod p
---     entry-below      it is below p
 --     entry-base       q counts modulo p only
 --     entry-sum        it is u plus p - q times v, modulo p: nothing is taken away
 --     table-place      u + p v, both below p, is a place of the table
@@ -13,16 +12,13 @@ use native.Mathlib.Omega.{arith}
 use Rattle.polynomials.specs.Indices.{upto}
 use Rattle.polynomials.specs.Places.{packed, shifted, reduced, minus, entry, lookedUp}
 use Rattle.polynomials.specs.IndexLaws.{upto-at}
-use Rattle.polynomials.specs.ReductionLaws.{mul-mod, minus-below, minus-only, reduced-shifted}
+use Rattle.polynomials.specs.ReductionLaws.{mul-mod, minus-only, reduced-shifted}
 
 pub entry-at : (p q u v : ℕ) → u < p → entry p q (u + p * v) ≡ minus p u (q * v)
 entry-at p q u v h =
     let low : (u + p * v) % p ≡ u = add-mul-mod-self-left u p v ∙ mod-eq-of-lt h in
     let high : (u + p * v) / p ≡ v = add-mul-div-left u v (omega arith) ∙ rw (div-eq-of-lt h) (zero-add v) in
     rw (low, high)
-
-pub entry-below : (p q j : ℕ) → 0 < p → entry p q j < p
-entry-below p q j h = minus-below p (j % p) (q * (j / p)) h
 
 pub entry-base : (p q j : ℕ) → entry p (q % p) j ≡ entry p q j
 entry-base p q j =

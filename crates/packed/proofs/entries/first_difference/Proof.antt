@@ -16,10 +16,10 @@ use Rattle.packed.proofs.entries.first_difference.Statement.{statement}
 use Rattle.packed.proofs.entries.first_difference.Tie as tie
 
 abbrev Inv-loop : tie.InvT-loop
-Inv-loop p t buffer end head q i₀ i = (i ≤ tableSize p) × (firstDifference buffer (table p t) ≡ first (differs buffer (table p t)) (tableSize p - i) i)
+Inv-loop p t buffer size head q i₀ i = (i ≤ tableSize p) × (firstDifference buffer (table p t) ≡ first (differs buffer (table p t)) (tableSize p - i) i)
 
 abbrev μ-loop : tie.MeasureT-loop
-μ-loop p t buffer end head q i₀ i = tableSize p - i
+μ-loop p t buffer size head q i₀ i = tableSize p - i
 
 table-size-requires : tie.Need-table-size-requires Inv-loop μ-loop
 table-size-requires c κs = search needs

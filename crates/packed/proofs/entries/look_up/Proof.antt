@@ -1,41 +1,40 @@
 -- `look_up` meets its contract: at place i, rest and quotient are word and quotient from there on, and w is the word of the places below.
 -- Assumes nothing.
-use Prim.Native.Nat.{ℕ, suc, _+_, _-_, _*_, _/_, _%_, _^_, _≤_, _<_}
+use Prim.Native.Nat.{ℕ, _+_, _-_, _*_, _/_, _%_, _^_, _≤_, _<_}
 use mathlib.Core.Path.{_≡_, refl, sym, ap, _∙_}
 use mathlib.Core.List.{List}
-use native.Mathlib.Nat.{pow-zero, div-one, div-le-self, mod-def, zero-mul, suc-mul, mod-lt, mod-eq-of-lt, mul-div-le, mul-le-mul, mul-le-mul-right, le-trans, lt-of-le-of-lt, lt-of-lt-of-le}
+use native.Mathlib.Nat.{pow-zero, pow-succ', div-one, div-le-self, mod-def, mul-comm, mod-lt, mod-eq-of-lt, mul-div-le, mul-le-mul, mul-le-mul-right, lt-of-le-of-lt, lt-of-lt-of-le}
 use native.Mathlib.Numerals.{add-one}
 use native.Mathlib.Omega.{arith}
-use lib.ListN.{length}
-use denote.Ref.{now}
+use lib.Pow.{pow-lt}
 use borrow.Author.Needs.{needs}
 use Rattle.polynomials.specs.Indices.{upto}
 use Rattle.polynomials.specs.Lists.{coefficient}
 use Rattle.polynomials.specs.Places.{packed, shifted, lookedUp}
 use Rattle.polynomials.specs.PlaceLaws.{packed-next, packed-fewer, field-next, power-power}
-use Rattle.polynomials.specs.ReductionLaws.{quotient-place, shifted-quotient}
+use Rattle.polynomials.specs.ReductionLaws.{mul-mod, quotient-place, shifted-quotient}
 use Rattle.polynomials.specs.TableLaws.{table-place}
 use Rattle.packed.proofs.entries.look_up.Statement.{statement}
 use Rattle.packed.proofs.entries.look_up.Tie as tie
 
 -- what holds at place i
-record Turn (p t m : ℕ) (held : List ℕ) (word rest quotient u at w i : ℕ) : Type 0 where
+record Turn (p t m : ℕ) (held : List ℕ) (word rest quotient u weight w i : ℕ) : Type 0 where
   within : i ≤ m
   rest-is : rest ≡ word / (2 ^ t) ^ i
   quotient-is : quotient ≡ word / p / (2 ^ t) ^ i
   u-is : u ≡ shifted p (2 ^ t) word i
-  at-is : at ≡ i * t
+  weight-is : weight ≡ (2 ^ t) ^ i % 2 ^ 64
   w-is : w ≡ packed (2 ^ t) (upto i (lookedUp p (2 ^ t) held word))
 
 abbrev Inv-loop : tie.InvT-loop
-Inv-loop p t m held word rest₀ quotient₀ u₀ at₀ w₀ i₀ rest quotient u at w i = Turn p t m held word rest quotient u at w i
+Inv-loop p t m held word rest₀ quotient₀ u₀ weight₀ w₀ i₀ rest quotient u weight w i = Turn p t m held word rest quotient u weight w i
 
 abbrev μ-loop : tie.MeasureT-loop
-μ-loop p t m held word rest₀ quotient₀ u₀ at₀ w₀ i₀ rest quotient u at w i = m - i
+μ-loop p t m held word rest₀ quotient₀ u₀ weight₀ w₀ i₀ rest quotient u weight w i = m - i
 
 -- ---- a turn, on plain numbers
 
-module _ {p t m : ℕ} {held : List ℕ} {word rest quotient u at w i : ℕ} (turn : Turn p t m held word rest quotient u at w i) where
+module _ {p t m : ℕ} {held : List ℕ} {word rest quotient u weight w i : ℕ} (turn : Turn p t m held word rest quotient u weight w i) where
   next-rest : rest / 2 ^ t ≡ word / (2 ^ t) ^ (i + 1)
   next-rest = ap (λ (n : ℕ). n / 2 ^ t) (turn .rest-is) ∙ field-next (2 ^ t) word i
 
@@ -60,34 +59,34 @@ module _ {p t m : ℕ} {held : List ℕ} {word rest quotient u at w i : ℕ} (tu
   found : coefficient held (u + p * (rest / 2 ^ t - p * (quotient / 2 ^ t))) ≡ lookedUp p (2 ^ t) held word i
   found = rw (above, turn .u-is, add-one)
 
-  -- it has room at its place: the word up to there is part of the word in all
-  next : w + lookedUp p (2 ^ t) held word i * 2 ^ at ≡ packed (2 ^ t) (upto (i + 1) (lookedUp p (2 ^ t) held word))
-  next = rw (turn .at-is, ← power-power 2 t i, turn .w-is) (sym (packed-next (2 ^ t) (lookedUp p (2 ^ t) held word) i))
+  -- within the word, the weight of a place is the base to that power
+  weighs : i < m → (m - 1) * t < 64 → weight ≡ (2 ^ t) ^ i
+  weighs h l =
+      let starts : i * t < 64 = lt-of-le-of-lt (mul-le-mul-right {m = i} {n = m - 1} t (omega arith)) l in
+      let below : 2 ^ (i * t) < 2 ^ 64 = pow-lt {j = 64} starts in
+      turn .weight-is ∙ mod-eq-of-lt (rw (power-power 2 t i) below)
 
-  room : i < m → packed (2 ^ t) (upto m (lookedUp p (2 ^ t) held word)) < 2 ^ 64 → w + lookedUp p (2 ^ t) held word i * 2 ^ at < 2 ^ 64
-  room h f = rw next (lt-of-le-of-lt (packed-fewer (2 ^ t) (lookedUp p (2 ^ t) held word) (i + 1) m (omega arith)) f)
+  next : i < m → (m - 1) * t < 64 → w + lookedUp p (2 ^ t) held word i * weight ≡ packed (2 ^ t) (upto (i + 1) (lookedUp p (2 ^ t) held word))
+  next h l = rw (weighs h l, turn .w-is) (sym (packed-next (2 ^ t) (lookedUp p (2 ^ t) held word) i))
 
-  -- so that nothing is lost where it is shifted there
-  shifted-up : (x : ℕ) → x ≡ lookedUp p (2 ^ t) held word i → i < m → packed (2 ^ t) (upto m (lookedUp p (2 ^ t) held word)) < 2 ^ 64
-      → w + x * 2 ^ at % 2 ^ 64 ≡ packed (2 ^ t) (upto (i + 1) (lookedUp p (2 ^ t) held word))
-  shifted-up x e h f =
-      let kept : lookedUp p (2 ^ t) held word i * 2 ^ at % 2 ^ 64 ≡ lookedUp p (2 ^ t) held word i * 2 ^ at = mod-eq-of-lt (omega (arith, room h f)) in
-      rw (e, kept) next
+  -- it has room: the word up to there is part of the word in all
+  room : i < m → (m - 1) * t < 64 → packed (2 ^ t) (upto m (lookedUp p (2 ^ t) held word)) < 2 ^ 64 → w + lookedUp p (2 ^ t) held word i * weight < 2 ^ 64
+  room h l f = rw (next h l) (lt-of-le-of-lt (packed-fewer (2 ^ t) (lookedUp p (2 ^ t) held word) (i + 1) m (omega arith)) f)
 
-  starts : i < m → (m - 1) * t < 64 → at < 64
-  starts h l = rw (turn .at-is) (lt-of-le-of-lt (mul-le-mul-right {m = i} {n = m - 1} t (omega arith)) l)
+  next-weight : weight * 2 ^ t % 2 ^ 64 ≡ (2 ^ t) ^ (i + 1) % 2 ^ 64
+  next-weight =
+      rw (turn .weight-is, mul-comm ((2 ^ t) ^ i % 2 ^ 64) (2 ^ t)) (mul-mod (2 ^ t) ((2 ^ t) ^ i) (2 ^ 64) ∙ rw (add-one, pow-succ' (2 ^ t) i))
 
-  turned : (x : ℕ) → x ≡ coefficient held (u + p * (rest / 2 ^ t - p * (quotient / 2 ^ t))) → i < m
-      → packed (2 ^ t) (upto m (lookedUp p (2 ^ t) held word)) < 2 ^ 64
-      → Turn p t m held word (rest / 2 ^ t) (quotient / 2 ^ t) (rest / 2 ^ t - p * (quotient / 2 ^ t)) (at + t) (w + x * 2 ^ at % 2 ^ 64) (i + 1)
-  turned x e h f =
+  turned : (x : ℕ) → x ≡ coefficient held (u + p * (rest / 2 ^ t - p * (quotient / 2 ^ t))) → i < m → (m - 1) * t < 64
+      → Turn p t m held word (rest / 2 ^ t) (quotient / 2 ^ t) (rest / 2 ^ t - p * (quotient / 2 ^ t)) (weight * 2 ^ t % 2 ^ 64) (w + x * weight) (i + 1)
+  turned x e h l =
       record {
         within = omega arith;
         rest-is = next-rest;
         quotient-is = next-quotient;
         u-is = above;
-        at-is = rw (turn .at-is, add-one, suc-mul);
-        w-is = shifted-up x (e ∙ found) h f;
+        weight-is = next-weight;
+        w-is = rw (e ∙ found) (next h l);
       }
 
 -- ---- the needs
@@ -113,7 +112,7 @@ loop-holds c =
       rest-is = rw (pow-zero, div-one);
       quotient-is = rw (pow-zero, div-one);
       u-is = rw (pow-zero, div-one) (sym (mod-def (a .word) (a .p)));
-      at-is = sym (zero-mul (a .t));
+      weight-is = rw pow-zero;
       w-is = refl;
     }
 
@@ -141,18 +140,18 @@ shared-slice-read-wide-byte c = lt-of-lt-of-le (inside (c .before .before .loop 
 wide-byte-requires : tie.Need-wide-byte-requires Inv-loop μ-loop
 wide-byte-requires c κs = search needs
 
-shl-w : tie.Need-shl-w Inv-loop μ-loop
-shl-w c = starts (c .before .before .before .loop .inv) (c .before .before .loop-test .taken) (c .before .before .before .before .before .pre .3)
+-- what is looked up fits at its place, on top of the places below
+fits : (c : tie.After-wide-byte Inv-loop μ-loop) → c .before .before .before .loop .w + c .wide-byte .result * c .before .before .before .loop .weight < 2 ^ 64
+fits c = rw (c .wide-byte .ensures ∙ found (c .before .before .before .loop .inv)) (room (c .before .before .before .loop .inv) (c .before .before .loop-test .taken) (c .before .before .before .before .before .pre .3) (c .before .before .before .before .before .pre .5))
+
+mul-w : tie.Need-mul-w Inv-loop μ-loop
+mul-w c = omega (arith, fits c)
 
 add-w : tie.Need-add-w Inv-loop μ-loop
-add-w c =
-    let l = c .before .before .before .loop in
-    let a = c .before .before .before .before .before .args in
-    let sum = turned (l .inv) (c .wide-byte .result) (c .wide-byte .ensures) (c .before .before .loop-test .taken) (c .before .before .before .before .before .pre .5) .w-is in
-    rw sum (record { fits = lt-of-le-of-lt (packed-fewer (2 ^ a .t) (lookedUp (a .p) (2 ^ a .t) (now (a .held)) (a .word)) (l .i + 1) (a .m) (omega arith)) (c .before .before .before .before .before .pre .5) })
+add-w c = omega (arith, fits c)
 
-add-at : tie.Need-add-at Inv-loop μ-loop
-add-at c = omega (arith, starts (c .before .before .before .loop .inv) (c .before .before .loop-test .taken) (c .before .before .before .before .before .pre .3))
+shl-weight : tie.Need-shl-weight Inv-loop μ-loop
+shl-weight c = search needs
 
 add-i : tie.Need-add-i Inv-loop μ-loop
 add-i c = search needs
@@ -161,7 +160,7 @@ loop-less : tie.Need-loop-less Inv-loop μ-loop
 loop-less c = search needs
 
 loop-again : tie.Need-loop-again Inv-loop μ-loop
-loop-again c = turned (c .before .before .before .loop .inv) (c .wide-byte .result) (c .wide-byte .ensures) (c .before .before .loop-test .taken) (c .before .before .before .before .before .pre .5)
+loop-again c = turned (c .before .before .before .loop .inv) (c .wide-byte .result) (c .wide-byte .ensures) (c .before .before .loop-test .taken) (c .before .before .before .before .before .pre .3)
 
 returns : tie.Need-returns Inv-loop μ-loop
 returns c =
@@ -186,9 +185,9 @@ look-up-spec =
     add-place
     shared-slice-read-wide-byte
     wide-byte-requires
-    shl-w
+    mul-w
     add-w
-    add-at
+    shl-weight
     add-i
     loop-less
     loop-again

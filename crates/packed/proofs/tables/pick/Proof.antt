@@ -1,5 +1,5 @@
 -- `pick` meets its promise. Assumes nothing.
-use Prim.Native.Nat.{_-_, _*_, _<_, _≤_}
+use Prim.Native.Nat.{_-_, _<_, _≤_}
 use mathlib.Core.Path.{_≡_, sym, ap, _∙_}
 use mathlib.Core.Bool.{true, false}
 use native.Mathlib.Omega.{arith}

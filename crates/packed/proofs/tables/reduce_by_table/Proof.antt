@@ -1,5 +1,4 @@
 -- `reduce_by_table` meets its promise. Assumes nothing.
-use Prim.Native.Nat.{_<_, _≤_}
 use mathlib.Core.Path.{_≡_, sym, ap, _∙_}
 use mathlib.Core.Bool.{true, false}
 use native.Mathlib.Omega.{arith}
@@ -10,7 +9,7 @@ use denote.Ref.{now}
 use Rattle.packed.specs.Answers.{fine}
 use Rattle.packed.specs.SharedAnswers.{writes-nothing, writes-filled}
 use Rattle.packed.specs.Settings.{checkedSays}
-use Rattle.packed.specs.Tables.{tableSize, fits, tableChecks, byTableChecks, reducedWordAt, reducedWords}
+use Rattle.packed.specs.Tables.{fits, tableChecks, byTableChecks, reducedWordAt, reducedWords}
 use Rattle.packed.specs.FitLaws.{Tabled, table-checked, fits-through, fits-parted, fits-size, fits-entries}
 use Rattle.packed.proofs.tables.reduce_by_table.Statement.{statement}
 use Rattle.packed.proofs.tables.reduce_by_table.Tie as tie

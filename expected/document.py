@@ -1,0 +1,42 @@
+"""Rows 1 to 6 of document 01 in whole numbers, and the pieces of a line: what the expected.py of every cases program shares. No code of the
+crates is used."""
+
+ALL = 2**64 - 1
+
+# what every element of a lent list is before the call
+SEVEN = 7
+
+
+def ranges(p, k, n):
+    if not 2 <= p <= 65536:
+        return 1
+    if not 1 <= k <= 8:
+        return 2
+    if not 1 <= n <= 1048576:
+        return 3
+    return 0
+
+
+def narrow_or_no_room(p, k, t, n):
+    if 2**t <= n * k * (p - 1) ** 2:
+        return 5
+    if (2 * k - 1) * t >= 64:
+        return 6
+    return 0
+
+
+def check(p, k, t, n):
+    """The number of the first of 1 to 6 whose cause holds, or 0."""
+    if ranges(p, k, n):
+        return ranges(p, k, n)
+    if not 1 <= t <= 63:
+        return 4
+    return narrow_or_no_room(p, k, t, n)
+
+
+def words(*parts):
+    """Numbers, texts and lists of them, one space apart."""
+    flat = []
+    for part in parts:
+        flat += part if isinstance(part, (list, tuple)) else [part]
+    return " ".join(str(x) for x in flat)
