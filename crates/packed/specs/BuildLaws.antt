@@ -16,8 +16,9 @@ use Rattle.layout.specs.Beginnings.{firstDifference, starts-with}
 use Rattle.packed.specs.Answers.{fine, refused}
 use Rattle.packed.specs.AnswerLaws.{passed-first}
 use Rattle.packed.specs.SharedAnswers.{wroteSays}
-use Rattle.packed.specs.Tables.{entries, table, tableChecks, buildChecks, fits, Builds, byTableChecks, ReducesByTable, entriesPlace, Picks}
+use Rattle.packed.specs.Tables.{entries, table, tableChecks, buildChecks, fits, Builds, ReducesByTable, entriesPlace, Picks}
 use Rattle.packed.specs.FitLaws.{table-checked, fits-only}
+use Rattle.packed.specs.ByTableLaws.{stale-refused}
 use Rattle.packed.specs.declared.setting.Setting.{Setting}
 use Rattle.packed.specs.declared.answers.Wrote.{Wrote}
 use Rattle.packed.specs.declared.answers.Wrote.the-variants.{Count}
@@ -55,10 +56,7 @@ module _ (s other : Setting) (old after : List ℕ) (m : ℕ) (builds : Builds o
 
   pub build-refused : (ws list left : List ℕ) (r : Wrote) → ReducesByTable s after ws list r left
       → (wroteSays r ≡ refused 15 (firstDifference after (table (s .p) (s .t)))) × (left ≡ list)
-  unfolding byTableChecks
-  build-refused ws list left r e =
-      let checks : byTableChecks s after ws (length list) ≡ refused 15 (firstDifference after (table (s .p) (s .t))) = rw (checked, build-stale) in
-      (e .0 ∙ rw checks, e .1 ∙ rw checks)
+  build-refused ws list left r e = stale-refused s after ws list left r checked build-stale e
 
   pub pick-second : (list left : List ℕ) (n : ℕ) (first second r : RefT (List ℕ)) → Builds s list (Count n) left → now first ≡ after → now second ≡ left → Picks s first second r
       → (now r ≡ entries (s .p) (s .t)) × (r .ptr ≡ entriesPlace second)

@@ -16,6 +16,6 @@ pub mod FitLaws
 pub mod ChoiceLaws
 pub mod RoundTrips
 pub mod ReduceLaws
-pub mod BuildLaws
 pub mod ByTableLaws
+pub mod BuildLaws
 pub mod Examples

@@ -5,8 +5,8 @@
 --     header-bytes         one by one, as a word's bytes are cut off
 --     table-parts          the table is the header and then the entries
 --     table-length         8 + p^2 bytes
---     word-room, word-made what is looked up among the entries packs to the reduced word, which has room
 --     byte-made            so its bytes are made from the header's and from entries for which the base is known modulo p
+--     word-room, word-made what is looked up among the entries packs to the reduced word, for which a word has room
 use Prim.Native.Nat.{ℕ, _+_, _*_, _/_, _%_, _^_, _≤_, _<_}
 use mathlib.Core.Path.{_≡_, refl, ap, _∙_, fun-ext}
 use mathlib.Core.List.{List, [], _∷_, _++_}

@@ -66,7 +66,7 @@ pub fn first_difference(p: u64, t: u64, buffer: &[u8]) -> usize
 }
 
 // Byte i: of the header, or past it an entry.
-fn table_byte(p: u64, q: u64, head: [u8; 8], i: usize) -> u8
+fn table_byte(p: u64, q: u64, head: [u8; HEADER_SIZE], i: usize) -> u8
     requires { ⌜ (0 < p) × (p ≤ largestTableModulus) × (q < p) × (length head ≡ headerSize) × (i < tableSize p) ⌝ }
     ensures { λ r. ⌜ r ≡ coefficient (head ++ upto (p * p) (entry p q)) i ⌝ }
 {
@@ -77,7 +77,7 @@ fn table_byte(p: u64, q: u64, head: [u8; 8], i: usize) -> u8
 }
 
 // Four bytes of how many follow, the version, two of p, one of t, the highest byte of a number first.
-fn header_bytes(p: u64, t: u64) -> [u8; 8]
+fn header_bytes(p: u64, t: u64) -> [u8; HEADER_SIZE]
     requires { ⌜ (p ≤ largestTableModulus) × (t < wordBits) ⌝ }
     ensures { λ r. ⌜ r ≡ header p t ⌝ }
 {
@@ -116,7 +116,7 @@ pub fn reduce_words(s: Setting, held: &[u8], words: &[u64], out: &mut [u64])
 }
 
 // The word whose field i is what stands among the entries at u_i + p u_(i+1), for the m lowest places: one division by p gives all the u,
-// as in split_shifted, and each place is looked up once. The entries may be any p^2 bytes of which the word has room.
+// as in split_shifted, and each place is looked up once. The entries may be any p^2 bytes, as long as a word has room for what is found.
 fn look_up(p: u64, t: u64, m: usize, held: &[u8], word: u64) -> u64
     requires { ⌜ (0 < p) × (p ≤ largestModulus) × (t < wordBits) × ((m - 1) * t < wordBits) × (p * p ≤ length (now held)) × (packed (2 ^ t) (upto m (lookedUp p (2 ^ t) (now held) word)) < 2 ^ wordBits) ⌝ }
     ensures { λ r. ⌜ r ≡ packed (2 ^ t) (upto m (lookedUp p (2 ^ t) (now (held .entry)) word)) ⌝ }

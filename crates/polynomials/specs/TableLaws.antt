@@ -3,15 +3,19 @@
 --     entry-base       q counts modulo p only
 --     entry-sum        it is u plus p - q times v, modulo p: nothing is taken away
 --     table-place      u + p v, both below p, is a place of the table
---     looked-up        what is looked up for place i of a number is m_i
+--     looked-up-field  of any entries below the base: field i of the number of all that is looked up is what stands at u_i + p u_(i + 1)
+--     looked-up        among a table's own entries: what is looked up for place i of a number is m_i
 --     looked-up-word   so the number of all that is looked up is that of the m
 use Prim.Native.Nat.{ℕ, suc, _+_, _-_, _*_, _/_, _%_, _≤_, _<_}
 use mathlib.Core.Path.{_≡_, sym, ap, _∙_, fun-ext}
-use native.Mathlib.Nat.{zero-add, mul-comm, mul-le-mul-left, mul-suc, add-mul, mod-lt, mod-add-mod, mod-eq-of-lt, div-eq-of-lt, add-mul-div-left, add-mul-mod-self-left}
+use mathlib.Core.List.{List}
+use native.Mathlib.Nat.{zero-add, mul-comm, mul-le-mul-left, mul-suc, add-mul, mod-lt, mod-add-mod, mod-eq-of-lt, div-eq-of-lt, add-mul-div-left, add-mul-mod-self-left, lt-of-le-of-lt}
 use native.Mathlib.Omega.{arith}
 use Rattle.polynomials.specs.Indices.{upto}
-use Rattle.polynomials.specs.Places.{packed, shifted, reduced, minus, entry, lookedUp}
-use Rattle.polynomials.specs.IndexLaws.{upto-at}
+use Rattle.polynomials.specs.Lists.{Below}
+use Rattle.polynomials.specs.Places.{packed, field, shifted, reduced, minus, entry, lookedUp}
+use Rattle.polynomials.specs.IndexLaws.{upto-at, upto-most}
+use Rattle.polynomials.specs.PlaceLaws.{field-packed}
 use Rattle.polynomials.specs.ReductionLaws.{mul-mod, minus-only, reduced-shifted}
 
 pub entry-at : (p q u v : ℕ) → u < p → entry p q (u + p * v) ≡ minus p u (q * v)
@@ -35,6 +39,11 @@ entry-sum p q j h l =
 
 pub table-place : (p u v : ℕ) → u < p → v < p → u + p * v < p * p
 table-place p u v hu hv = omega (arith, mul-le-mul-left p hv, mul-suc p v)
+
+pub looked-up-field : (p q : ℕ) (es : List ℕ) (m r i : ℕ) → Below q es → i < m → field q (packed q (upto m (lookedUp p q es r))) i ≡ lookedUp p q es r i
+looked-up-field p q es m r i h l =
+    field-packed q (upto m (lookedUp p q es r)) (λ j. lt-of-le-of-lt (upto-most m (lookedUp p q es r) j) (h (shifted p q r j + p * shifted p q r (suc j)))) i
+    ∙ upto-at m (lookedUp p q es r) i l
 
 pub looked-up : (p q r i : ℕ) → 0 < p → lookedUp p q (upto (p * p) (entry p q)) r i ≡ reduced p q r i
 looked-up p q r i h =
