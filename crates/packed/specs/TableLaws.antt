@@ -27,7 +27,7 @@ use Rattle.packed.specs.Places.{reducedWord}
 use Rattle.packed.specs.Tables.{entries, tableVersion, tableBody, table, headerSize, tableSize}
 use Rattle.packed.specs.declared.setting.Setting.{Setting}
 
-pub square-most : (p : ℕ) → p ≤ largestTableModulus → p * p ≤ 16129
+pub square-most : (p : ℕ) → p ≤ largestTableModulus → p * p ≤ largestTableModulus * largestTableModulus
 square-most p h = mul-le-mul {n₁ = p} {m₁ = p} h h
 
 abbrev pub header : ℕ → ℕ → List ℕ
