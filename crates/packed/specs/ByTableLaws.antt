@@ -1,10 +1,10 @@
 -- Reduce by table, from its promise and that of reduce alone. Assumes nothing.
---     stale-refused        a buffer that does not fit is refused with 15 at its first difference, whatever the words, and the list is left
+--     stale-checks         a buffer that does not fit is refused with 15 at its first difference, whatever the words
+--     stale-refused        so reduce by table answers that, and leaves the list
 --     words-check          11 is given for no word of a list exactly where it is given for none of them alone
 --     ByTable s buf ws len what holds where reduce by table refuses nothing
 --     by-table-checked     and it refuses nothing exactly there
---     by-table-reduces     where reduce by table answers, it has written one word for each word, and each is what reduce answers: demand 2,
---                          "with the table or without"
+--     by-table-reduces     where reduce by table answers, it has written one word for each word, and each is what reduce answers
 --     by-table-answers     where reduce answers every word, the table fits and the list lent is long enough, reduce by table answers too
 use Prim.Native.Nat.{ℕ, _≤_, _<_}
 use mathlib.Core.Path.{_≡_, refl, sym, ap, _∙_}
@@ -29,11 +29,14 @@ use Rattle.packed.specs.declared.answers.Packed.the-variants.{Word}
 use Rattle.packed.specs.declared.answers.Wrote.{Wrote}
 use Rattle.packed.specs.declared.answers.Wrote.the-variants.{Count}
 
+pub stale-checks : (s : Setting) (buf ws : List ℕ) (len : ℕ) → tableChecks s ≡ fine → fits s buf ≡ false → byTableChecks s buf ws len ≡ refused 15 (firstDifference buf (table (s .p) (s .t)))
+unfolding byTableChecks
+stale-checks s buf ws len checked parted = rw (checked, parted)
+
 pub stale-refused : (s : Setting) (buf ws old after : List ℕ) (r : Wrote) → tableChecks s ≡ fine → fits s buf ≡ false → ReducesByTable s buf ws old r after
     → (wroteSays r ≡ refused 15 (firstDifference buf (table (s .p) (s .t)))) × (after ≡ old)
-unfolding byTableChecks
 stale-refused s buf ws old after r checked parted e =
-    let checks : byTableChecks s buf ws (length old) ≡ refused 15 (firstDifference buf (table (s .p) (s .t))) = rw (checked, parted) in
+    let checks = stale-checks s buf ws (length old) checked parted in
     (e .0 ∙ rw checks, e .1 ∙ rw checks)
 
 pub words-check : (s : Setting) (ws : List ℕ) → (wordsCheck s ws ≡ fine) ↔ ((i : ℕ) → i < length ws → wordCause s (coefficient ws i) ≡ false)

@@ -42,11 +42,14 @@ table-checked s e =
     record { bounded = bounds s (a .0); small = ltb-false largestTableModulus (s .p) (passed-last (noTableCause (s .p)) 14 0 (a .1)) }
 
 module _ (s : Setting) (buf : List ℕ) where
-  pub fits-through : tableSize (s .p) ≤ firstDifference buf (table (s .p) (s .t)) → fits s buf ≡ true
-  fits-through h = starts-with-first buf (table (s .p) (s .t)) ∙ le-leb (length (table (s .p) (s .t))) (firstDifference buf (table (s .p) (s .t))) (omega (arith, table-length (s .p) (s .t)))
+  -- size and d are the table's size and the first difference, as the code has them
+  pub fits-through : (size d : ℕ) → size ≡ tableSize (s .p) → d ≡ firstDifference buf (table (s .p) (s .t)) → size ≤ d → fits s buf ≡ true
+  fits-through size d is found h =
+      starts-with-first buf (table (s .p) (s .t)) ∙ le-leb (length (table (s .p) (s .t))) (firstDifference buf (table (s .p) (s .t))) (omega (arith, table-length (s .p) (s .t)))
 
-  pub fits-parted : firstDifference buf (table (s .p) (s .t)) < tableSize (s .p) → fits s buf ≡ false
-  fits-parted h = starts-with-first buf (table (s .p) (s .t)) ∙ lt-leb (length (table (s .p) (s .t))) (firstDifference buf (table (s .p) (s .t))) (omega (arith, table-length (s .p) (s .t)))
+  pub fits-parted : (size d : ℕ) → size ≡ tableSize (s .p) → d ≡ firstDifference buf (table (s .p) (s .t)) → d < size → fits s buf ≡ false
+  fits-parted size d is found h =
+      starts-with-first buf (table (s .p) (s .t)) ∙ lt-leb (length (table (s .p) (s .t))) (firstDifference buf (table (s .p) (s .t))) (omega (arith, table-length (s .p) (s .t)))
 
   -- what a buffer that fits starts with
   whole : fits s buf ≡ true → take (tableSize (s .p)) buf ≡ header (s .p) (s .t) ++ entries (s .p) (s .t)
@@ -55,11 +58,10 @@ module _ (s : Setting) (buf : List ℕ) where
   pub fits-size : fits s buf ≡ true → tableSize (s .p) ≤ length buf
   fits-size e = omega (arith, length-take (tableSize (s .p)) buf, ap length (rw table-length at (starts-with buf (table (s .p) (s .t)) .0 e)), table-length (s .p) (s .t))
 
-  -- n is the table's size, as the code has it
-  pub fits-entries : (n : ℕ) → n ≡ tableSize (s .p) → fits s buf ≡ true → take (n - headerSize) (drop headerSize buf) ≡ entries (s .p) (s .t)
-  fits-entries n size e =
+  pub fits-entries : (size : ℕ) → size ≡ tableSize (s .p) → fits s buf ≡ true → take (size - headerSize) (drop headerSize buf) ≡ entries (s .p) (s .t)
+  fits-entries size is e =
       let front : length (take headerSize buf) ≡ headerSize = length-take-le headerSize buf (omega (arith, fits-size e)) in
-      let rest : n - headerSize ≡ s .p * s .p = omega arith in
+      let rest : size - headerSize ≡ s .p * s .p = omega arith in
       rw rest
       (sym (drop-at (take headerSize buf) (take (s .p * s .p) (drop headerSize buf)) headerSize front)
       ∙ ap (drop headerSize) (sym (take-add headerSize (s .p * s .p) buf) ∙ whole e))

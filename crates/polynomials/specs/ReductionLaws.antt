@@ -6,12 +6,13 @@
 --     reduced-last              the last m is the last u
 --     reduced-divides           where p divides q, every m is the u
 --     quotient-place            the quotient by p at place i is the quotient by p of what stands from place i on
+--     quotient-under            p times it is no more than what stands there
 --     shifted-quotient          document 003's algorithm 2: u_i from one division by p
 --     reduced-most              packing the m gives no more than the number
 --     field-reduced             and its fields are the m
 use Prim.Native.Nat.{ℕ, suc, _+_, _-_, _*_, _/_, _%_, _^_, _≤_, _<_, _∣_, zero-le}
 use mathlib.Core.Path.{_≡_, sym, ap, _∙_}
-use native.Mathlib.Nat.{mod-lt, mod-add-mod, mod-add-div, div-add-mod', add-mul-mod-self-right, suc-mul, pow-suc, pow-succ', div-div-eq-div-mul, div-lt-iff-lt-mul, mod-eq-of-lt, one-le-pow, mod-le, mod-def, mod-mod-of-dvd, mul-comm, le-trans, lt-of-le-of-lt}
+use native.Mathlib.Nat.{mod-lt, mod-add-mod, mod-add-div, div-add-mod', add-mul-mod-self-right, suc-mul, pow-suc, pow-succ', div-div-eq-div-mul, div-lt-iff-lt-mul, mod-eq-of-lt, one-le-pow, mod-le, mod-def, mod-mod-of-dvd, mul-comm, mul-div-le, le-trans, lt-of-le-of-lt}
 use native.Mathlib.Decide.{decLt}
 use native.Mathlib.Omega.{arith}
 use Rattle.polynomials.specs.Indices.{upto}
@@ -61,6 +62,9 @@ reduced-divides p q r i h = mod-mod-of-dvd p (r / q ^ i) h
 
 pub quotient-place : (p q r i : ℕ) → r / p / q ^ i ≡ r / q ^ i / p
 quotient-place p q r i = rw (div-div-eq-div-mul r p (q ^ i), mul-comm p (q ^ i), ← div-div-eq-div-mul)
+
+pub quotient-under : (p q r i : ℕ) → p * (r / p / q ^ i) ≤ r / q ^ i
+quotient-under p q r i = rw (quotient-place p q r i) (mul-div-le (r / q ^ i) p)
 
 pub shifted-quotient : (p q r i : ℕ) → r / q ^ i - p * (r / p / q ^ i) ≡ shifted p q r i
 shifted-quotient p q r i = rw (quotient-place p q r i) (sym (mod-def (r / q ^ i) p))

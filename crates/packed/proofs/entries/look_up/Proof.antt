@@ -12,7 +12,7 @@ use Rattle.polynomials.specs.Indices.{upto}
 use Rattle.polynomials.specs.Lists.{coefficient}
 use Rattle.polynomials.specs.Places.{packed, shifted, lookedUp}
 use Rattle.polynomials.specs.PlaceLaws.{packed-next, packed-fewer, field-next, power-power}
-use Rattle.polynomials.specs.ReductionLaws.{mul-mod, quotient-place, shifted-quotient}
+use Rattle.polynomials.specs.ReductionLaws.{mul-mod, quotient-under, shifted-quotient}
 use Rattle.polynomials.specs.TableLaws.{table-place}
 use Rattle.packed.proofs.entries.look_up.Statement.{statement}
 use Rattle.packed.proofs.entries.look_up.Tie as tie
@@ -43,7 +43,7 @@ module _ {p t m : ℕ} {held : List ℕ} {word rest quotient u weight w i : ℕ}
 
   -- p times the quotient is no more than the rest
   under : p * (quotient / 2 ^ t) ≤ rest / 2 ^ t
-  under = rw (next-rest, next-quotient, quotient-place p (2 ^ t) word (i + 1)) (mul-div-le (word / (2 ^ t) ^ (i + 1)) p)
+  under = rw (next-rest, next-quotient) (quotient-under p (2 ^ t) word (i + 1))
 
   most : rest / 2 ^ t ≤ word
   most = rw next-rest (div-le-self word ((2 ^ t) ^ (i + 1)))

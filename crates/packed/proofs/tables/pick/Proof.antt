@@ -24,16 +24,16 @@ searched c =
 
 -- the first buffer fits, or not; and so the second
 first-fits : (c : tie.Then1) → fits (c .before .before .before .before .before .before .before .before .args .s) (now (c .before .before .before .before .before .before .before .before .args .first)) ≡ true
-first-fits c = fits-through (c .before .before .before .before .before .before .before .before .args .s) (now (c .before .before .before .before .before .before .before .before .args .first)) (omega (arith, c .before .before .table-size .ensures, c .before .first-difference .ensures, c .if1 .taken))
+first-fits c = fits-through (c .before .before .before .before .before .before .before .before .args .s) (now (c .before .before .before .before .before .before .before .before .args .first)) (c .before .before .table-size .result) (c .before .first-difference .result) (c .before .before .table-size .ensures) (c .before .first-difference .ensures) (c .if1 .taken)
 
 first-parts : (c : tie.Else1) → fits (c .before .before .before .before .before .before .before .before .args .s) (now (c .before .before .before .before .before .before .before .before .args .first)) ≡ false
-first-parts c = fits-parted (c .before .before .before .before .before .before .before .before .args .s) (now (c .before .before .before .before .before .before .before .before .args .first)) (omega (arith, c .before .before .table-size .ensures, c .before .first-difference .ensures, c .if1 .left))
+first-parts c = fits-parted (c .before .before .before .before .before .before .before .before .args .s) (now (c .before .before .before .before .before .before .before .before .args .first)) (c .before .before .table-size .result) (c .before .first-difference .result) (c .before .before .table-size .ensures) (c .before .first-difference .ensures) (c .if1 .left)
 
 second-fits : (c : tie.Then2) → fits (c .before .before .before .before .before .before .before .before .before .before .args .s) (now (c .before .before .before .before .before .before .before .before .before .before .args .second)) ≡ true
-second-fits c = fits-through (c .before .before .before .before .before .before .before .before .before .before .args .s) (now (c .before .before .before .before .before .before .before .before .before .before .args .second)) (omega (arith, c .before .before .before .before .table-size .ensures, c .before .first-difference2 .ensures, c .if2 .taken))
+second-fits c = fits-through (c .before .before .before .before .before .before .before .before .before .before .args .s) (now (c .before .before .before .before .before .before .before .before .before .before .args .second)) (c .before .before .before .before .table-size .result) (c .before .first-difference2 .result) (c .before .before .before .before .table-size .ensures) (c .before .first-difference2 .ensures) (c .if2 .taken)
 
 second-parts : (c : tie.Else2) → fits (c .before .before .before .before .before .before .before .before .before .before .args .s) (now (c .before .before .before .before .before .before .before .before .before .before .args .second)) ≡ false
-second-parts c = fits-parted (c .before .before .before .before .before .before .before .before .before .before .args .s) (now (c .before .before .before .before .before .before .before .before .before .before .args .second)) (omega (arith, c .before .before .before .before .table-size .ensures, c .before .first-difference2 .ensures, c .if2 .left))
+second-parts c = fits-parted (c .before .before .before .before .before .before .before .before .before .before .args .s) (now (c .before .before .before .before .before .before .before .before .before .before .args .second)) (c .before .before .before .before .table-size .result) (c .before .first-difference2 .result) (c .before .before .before .before .table-size .ensures) (c .before .first-difference2 .ensures) (c .if2 .left)
 
 -- ---- the needs
 

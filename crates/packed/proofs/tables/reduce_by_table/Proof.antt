@@ -1,18 +1,45 @@
 -- `reduce_by_table` meets its promise. Assumes nothing.
+use Prim.Native.Nat.{ℕ, _≤_, _<_}
 use mathlib.Core.Path.{_≡_, sym, ap, _∙_}
-use mathlib.Core.Bool.{true, false}
+use mathlib.Core.Bool.{true}
+use mathlib.Core.List.{List}
 use native.Mathlib.Omega.{arith}
 use lib.ListN.{length}
 use borrow.Author.Needs.{needs}
 use borrow.Author.Tests.{lt-ltb, le-ltb}
 use denote.Ref.{now}
-use Rattle.packed.specs.Answers.{fine}
+use Rattle.polynomials.specs.IndexLaws.{first-none}
+use Rattle.packed.specs.Answers.{fine, refused}
 use Rattle.packed.specs.SharedAnswers.{writes-nothing, writes-filled}
 use Rattle.packed.specs.Settings.{checkedSays}
-use Rattle.packed.specs.Tables.{fits, tableChecks, byTableChecks, reducedWordAt, reducedWords}
+use Rattle.packed.specs.Tables.{table, fits, badWord, firstBadWord, tableChecks, byTableChecks, reducedWordAt, reducedWords, ReducesByTable}
 use Rattle.packed.specs.FitLaws.{Tabled, table-checked, fits-through, fits-parted, fits-size, fits-entries}
+use Rattle.packed.specs.ByTableLaws.{stale-checks, ByTable, by-table-checked}
+use Rattle.packed.specs.declared.setting.Setting.{Setting}
+use Rattle.packed.specs.declared.refusals.Refusal.{Refusal}
+use Rattle.packed.specs.declared.answers.Wrote.the-variants.{Refused}
 use Rattle.packed.proofs.tables.reduce_by_table.Statement.{statement}
 use Rattle.packed.proofs.tables.reduce_by_table.Tie as tie
+
+-- ---- the refusals but 15, on plain values
+
+module _ (s : Setting) (buf ws old : List ℕ) where
+  refuses : (r : Refusal) → byTableChecks s buf ws (length old) ≡ refused (r .number) (r .place) → ReducesByTable s buf ws old (Refused r) old
+  refuses r e = writes-nothing (byTableChecks s buf ws (length old)) (reducedWords s ws) old r e
+
+  at-setting : (number place : ℕ) → tableChecks s ≡ refused number place → byTableChecks s buf ws (length old) ≡ refused number place
+  unfolding byTableChecks
+  at-setting number place e = rw e
+
+  at-10 : tableChecks s ≡ fine → fits s buf ≡ true → length old < length ws → byTableChecks s buf ws (length old) ≡ refused 10 0
+  unfolding byTableChecks
+  at-10 e f h = rw (e, f, lt-ltb (length old) (length ws) h)
+
+  at-11 : tableChecks s ≡ fine → fits s buf ≡ true → length ws ≤ length old → firstBadWord s ws < length ws → byTableChecks s buf ws (length old) ≡ refused 11 (firstBadWord s ws)
+  unfolding byTableChecks
+  at-11 e f h b = rw (e, f, le-ltb (length old) (length ws) h, lt-ltb (firstBadWord s ws) (length ws) b)
+
+-- ---- what is known on the way
 
 -- past 14
 tabled : (c : tie.After-enum-told) → tableChecks (c .before .before .before .before .before .before .args .s) ≡ fine
@@ -23,7 +50,7 @@ opened c = table-checked (c .before .before .before .before .before .before .arg
 
 -- past 15
 fresh : (c : tie.Else1) → fits (c .before .before .before .before .before .before .before .before .before .args .s) (now (c .before .before .before .before .before .before .before .before .before .args .table)) ≡ true
-fresh c = fits-through (c .before .before .before .before .before .before .before .before .before .args .s) (now (c .before .before .before .before .before .before .before .before .before .args .table)) (omega (arith, c .before .before .table-size .ensures, c .before .first-difference .ensures, c .if1 .left))
+fresh c = fits-through (c .before .before .before .before .before .before .before .before .before .args .s) (now (c .before .before .before .before .before .before .before .before .before .args .table)) (c .before .before .table-size .result) (c .before .first-difference .result) (c .before .before .table-size .ensures) (c .before .first-difference .ensures) (c .if1 .left)
 
 -- ---- the needs
 
@@ -34,10 +61,10 @@ enum-known-r : tie.Need-enum-known-r
 enum-known-r c = search needs
 
 returns : tie.Need-returns
-unfolding byTableChecks
 returns c =
     let a = c .before .before .before .before .before .before .before .args in
-    writes-nothing (byTableChecks (a .s) (now (a .table)) (now (a .words)) (length (now (a .out)))) (reducedWords (a .s) (now (a .words))) (now (a .out)) _ (rw (sym (c .before .before .before .check-table .ensures) ∙ ap checkedSays (c .before .r .given .1)))
+    refuses (a .s) (now (a .table)) (now (a .words)) (now (a .out)) _
+    (at-setting (a .s) (now (a .table)) (now (a .words)) (now (a .out)) _ _ (sym (c .before .before .before .check-table .ensures) ∙ ap checkedSays (c .before .r .given .1)))
 
 enum-told : tie.Need-enum-told
 enum-told c = search needs
@@ -54,18 +81,18 @@ stale-requires : tie.Need-stale-requires
 stale-requires c κs = search needs
 
 returns-2 : tie.Need-returns-2
-unfolding byTableChecks
 returns-2 c =
     let a = c .before .before .before .before .before .before .before .before .before .before .args in
+    let size = c .before .before .before .table-size in
     let first = c .before .before .first-difference in
-    let parted : fits (a .s) (now (a .table)) ≡ false = fits-parted (a .s) (now (a .table)) (omega (arith, c .before .before .before .table-size .ensures, first .ensures, c .before .if1 .taken)) in
-    writes-nothing (byTableChecks (a .s) (now (a .table)) (now (a .words)) (length (now (a .out)))) (reducedWords (a .s) (now (a .words))) (now (a .out)) _ (rw (tabled (c .before .before .before .before), parted, c .stale .ensures .0, c .stale .ensures .1, first .ensures))
+    let parted = fits-parted (a .s) (now (a .table)) (size .result) (first .result) (size .ensures) (first .ensures) (c .before .if1 .taken) in
+    refuses (a .s) (now (a .table)) (now (a .words)) (now (a .out)) (c .stale .result)
+    (stale-checks (a .s) (now (a .table)) (now (a .words)) (length (now (a .out))) (tabled (c .before .before .before .before)) parted ∙ rw (c .stale .ensures .0, c .stale .ensures .1, first .ensures))
 
 returns-3 : tie.Need-returns-3
-unfolding byTableChecks
 returns-3 c =
     let a = c .before .before .before .before .before .before .before .before .before .before .args in
-    writes-nothing (byTableChecks (a .s) (now (a .table)) (now (a .words)) (length (now (a .out)))) (reducedWords (a .s) (now (a .words))) (now (a .out)) _ (rw (tabled (c .before .before .before .before), fresh (c .before), lt-ltb (length (now (a .out))) (length (now (a .words))) (c .if2 .taken)))
+    refuses (a .s) (now (a .table)) (now (a .words)) (now (a .out)) _ (at-10 (a .s) (now (a .table)) (now (a .words)) (now (a .out)) (tabled (c .before .before .before .before)) (fresh (c .before)) (c .if2 .taken))
 
 first-bad-word-requires : tie.Need-first-bad-word-requires
 first-bad-word-requires c κs = opened (c .before .before .before .before) .bounded
@@ -74,11 +101,12 @@ word-at-requires : tie.Need-word-at-requires
 word-at-requires c κs = search needs
 
 returns-4 : tie.Need-returns-4
-unfolding byTableChecks
 returns-4 c =
     let a = c .before .before .before .before .before .before .before .before .before .before .before .before .before .args in
     let bad = c .before .before .first-bad-word in
-    writes-nothing (byTableChecks (a .s) (now (a .table)) (now (a .words)) (length (now (a .out)))) (reducedWords (a .s) (now (a .words))) (now (a .out)) _ (rw (tabled (c .before .before .before .before .before .before .before), fresh (c .before .before .before .before), le-ltb (length (now (a .out))) (length (now (a .words))) (c .before .before .before .if2 .left), ← bad .ensures, lt-ltb (bad .result) (length (now (a .words))) (c .before .if3 .taken), c .word-at .ensures .0, c .word-at .ensures .1))
+    let found : firstBadWord (a .s) (now (a .words)) < length (now (a .words)) = rw (← bad .ensures) (c .before .if3 .taken) in
+    refuses (a .s) (now (a .table)) (now (a .words)) (now (a .out)) (c .word-at .result)
+    (at-11 (a .s) (now (a .table)) (now (a .words)) (now (a .out)) (tabled (c .before .before .before .before .before .before .before)) (fresh (c .before .before .before .before)) (c .before .before .before .if2 .left) found ∙ rw (c .word-at .ensures .0, c .word-at .ensures .1, bad .ensures))
 
 sub-reduce-words : tie.Need-sub-reduce-words
 sub-reduce-words c = search needs
@@ -99,13 +127,17 @@ same-length : tie.Need-same-length
 same-length c = search needs
 
 returns-5 : tie.Need-returns-5
-unfolding byTableChecks
 returns-5 c =
     let a = c .before .before .before .before .before .before .before .before .before .before .before .before .before .before .before .before .before .args in
     let bad = c .before .before .before .before .before .before .first-bad-word in
-    let checks = byTableChecks (a .s) (now (a .table)) (now (a .words)) (length (now (a .out))) in
-    let none-refused : checks ≡ fine = rw (tabled (c .before .before .before .before .before .before .before .before .before .before .before), fresh (c .before .before .before .before .before .before .before .before), le-ltb (length (now (a .out))) (length (now (a .words))) (c .before .before .before .before .before .before .before .if2 .left), ← bad .ensures, le-ltb (bad .result) (length (now (a .words))) (c .before .before .before .before .before .if3 .left)) in
-    writes-filled checks (length (now (a .words))) (reducedWordAt (a .s) (now (a .words))) (now (a .out)) _ none-refused (c .before .before .reduce-words .ensures)
+    let through : length (now (a .words)) ≤ firstBadWord (a .s) (now (a .words)) = rw (← bad .ensures) (c .before .before .before .before .before .if3 .left) in
+    let passed : ByTable (a .s) (now (a .table)) (now (a .words)) (length (now (a .out))) = record {
+      tabled = tabled (c .before .before .before .before .before .before .before .before .before .before .before);
+      fit = fresh (c .before .before .before .before .before .before .before .before);
+      room = c .before .before .before .before .before .before .before .if2 .left;
+      words = first-none (badWord (a .s) (now (a .words))) (length (now (a .words))) .0 through;
+    } in
+    writes-filled (byTableChecks (a .s) (now (a .table)) (now (a .words)) (length (now (a .out)))) (length (now (a .words))) (reducedWordAt (a .s) (now (a .words))) (now (a .out)) _ (by-table-checked _ _ _ _ .1 passed) (c .before .before .reduce-words .ensures)
 
 pub reduce-by-table-spec : {M : Type 1} → statement M
 reduce-by-table-spec =

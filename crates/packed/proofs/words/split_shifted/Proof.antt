@@ -1,7 +1,7 @@
 -- `split_shifted` meets its contract: rest and quotient are word and quotient from place i on. Assumes nothing.
 use Prim.Native.Nat.{ℕ, _-_, _*_, _/_, _^_, _≤_}
 use mathlib.Core.Path.{_≡_, refl, ap, _∙_}
-use native.Mathlib.Nat.{pow-zero, div-one, div-le-self, mul-div-le, mod-lt, lt-of-lt-of-le}
+use native.Mathlib.Nat.{pow-zero, div-one, div-le-self, mod-lt, lt-of-lt-of-le}
 use native.Mathlib.Omega.{arith}
 use lib.ListN.{length, length-set}
 use borrow.Author.Needs.{needs}
@@ -9,7 +9,7 @@ use Rattle.polynomials.specs.Indices.{filled}
 use Rattle.polynomials.specs.IndexLaws.{filled-more}
 use Rattle.polynomials.specs.Places.{shifted}
 use Rattle.polynomials.specs.PlaceLaws.{field-next}
-use Rattle.polynomials.specs.ReductionLaws.{quotient-place, shifted-quotient}
+use Rattle.polynomials.specs.ReductionLaws.{quotient-under, shifted-quotient}
 use Rattle.packed.proofs.words.split_shifted.Statement.{statement}
 use Rattle.packed.proofs.words.split_shifted.Tie as tie
 
@@ -25,7 +25,7 @@ under : (c : tie.In-loop Inv-loop μ-loop) → c .before .before .args .p * c .b
 under c =
     let a = c .before .before .args in
     let l = c .before .loop in
-    rw (l .inv .3, l .inv .4, quotient-place (a .p) (2 ^ a .t) (a .word) (l .i)) (mul-div-le (a .word / (2 ^ a .t) ^ l .i) (a .p))
+    rw (l .inv .3, l .inv .4) (quotient-under (a .p) (2 ^ a .t) (a .word) (l .i))
 
 -- what is written is u
 written : (c : tie.In-loop Inv-loop μ-loop) → c .before .loop .rest - c .before .before .args .p * c .before .loop .quotient ≡ shifted (c .before .before .args .p) (2 ^ c .before .before .args .t) (c .before .before .args .word) (c .before .loop .i)
