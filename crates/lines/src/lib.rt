@@ -1,36 +1,49 @@
 // The lines of the cases programs, piece by piece, on standard output. Numbers are decimal, with a space before each.
+ghost use Rattle.lines.specs.Lines.{Prints, PrintsList};
 use libc::STDOUT_FILENO;
 use packed::answers::Packed;
 use packed::answers::Wrote;
 use packed::refusals::Refusal;
 
-pub fn text(piece: &[u8]) {
+pub fn text(piece: &[u8])
+    ensures { λ r. ⌜ PrintsList (now (piece .entry)) (now (piece .exit)) r ⌝ }
+{
     io::write_all(STDOUT_FILENO, piece);
 }
 
-pub fn end() {
+pub fn end()
+    ensures { λ r. ⌜ Prints r ⌝ }
+{
     text(b"\n");
 }
 
-pub fn number(n: u64) {
+pub fn number(n: u64)
+    ensures { λ r. ⌜ Prints r ⌝ }
+{
     text(b" ");
     io::print_decimal(STDOUT_FILENO, n);
 }
 
-pub fn setting(p: u64, k: u64, t: u64, n: u64) {
+pub fn setting(p: u64, k: u64, t: u64, n: u64)
+    ensures { λ r. ⌜ Prints r ⌝ }
+{
     number(p);
     number(k);
     number(t);
     number(n);
 }
 
-pub fn refusal(r: Refusal) {
+pub fn refusal(cause: Refusal)
+    ensures { λ r. ⌜ Prints r ⌝ }
+{
     text(b": refused");
-    number(r.number);
-    number(r.place);
+    number(cause.number);
+    number(cause.place);
 }
 
-pub fn word(answer: Packed) {
+pub fn word(answer: Packed)
+    ensures { λ r. ⌜ Prints r ⌝ }
+{
     match answer {
         Packed::Word(w) => {
             text(b": word");
@@ -42,7 +55,9 @@ pub fn word(answer: Packed) {
 }
 
 // The lent list follows, with `bytes`, `coefficients` or `words`.
-pub fn wrote(answer: Wrote) {
+pub fn wrote(answer: Wrote)
+    ensures { λ r. ⌜ Prints r ⌝ }
+{
     match answer {
         Wrote::Count(m) => {
             text(b": wrote");
@@ -53,7 +68,9 @@ pub fn wrote(answer: Wrote) {
     text(b":");
 }
 
-pub fn bytes(xs: &[u8]) {
+pub fn bytes(xs: &[u8])
+    ensures { λ r. ⌜ PrintsList (now (xs .entry)) (now (xs .exit)) r ⌝ }
+{
     let mut i = 0;
     while i < xs.len() {
         number(wide_byte(xs[i]));
@@ -61,7 +78,9 @@ pub fn bytes(xs: &[u8]) {
     }
 }
 
-pub fn coefficients(xs: &[u16]) {
+pub fn coefficients(xs: &[u16])
+    ensures { λ r. ⌜ PrintsList (now (xs .entry)) (now (xs .exit)) r ⌝ }
+{
     let mut i = 0;
     while i < xs.len() {
         number(wide(xs[i]));
@@ -69,7 +88,9 @@ pub fn coefficients(xs: &[u16]) {
     }
 }
 
-pub fn words(xs: &[u64]) {
+pub fn words(xs: &[u64])
+    ensures { λ r. ⌜ PrintsList (now (xs .entry)) (now (xs .exit)) r ⌝ }
+{
     let mut i = 0;
     while i < xs.len() {
         number(xs[i]);

@@ -12,7 +12,7 @@ use Rattle.polynomials.specs.IndexLaws.{first-none}
 use Rattle.packed.specs.Answers.{fine, refused}
 use Rattle.packed.specs.SharedAnswers.{writes-nothing, writes-filled}
 use Rattle.packed.specs.Settings.{checkedSays}
-use Rattle.packed.specs.Tables.{table, fits, badWord, firstBadWord, tableChecks, byTableChecks, reducedWordAt, reducedWords, ReducesByTable}
+use Rattle.packed.specs.Tables.{fits, badWord, firstBadWord, tableChecks, byTableChecks, reducedWordAt, reducedWords, ReducesByTable}
 use Rattle.packed.specs.FitLaws.{Tabled, table-checked, fits-through, fits-parted, fits-size, fits-entries}
 use Rattle.packed.specs.ByTableLaws.{stale-checks, ByTable, by-table-checked}
 use Rattle.packed.specs.declared.setting.Setting.{Setting}
