@@ -152,6 +152,10 @@ for places in [(i, i) for i in range(17)] + [(16, 11), (17, 19)]:
 # 15: a buffer that ends
 for lent in range(17):
     show_by_table(SMALL, built(3, 4, 17)[:lent], [1122], 1)
+for i in [9, 14]:
+    buffer = built(3, 4, 17)
+    buffer[i] = (buffer[i] + 1) % 256
+    show_by_table(SMALL, buffer[:12], [1122], 1)
 # 15: tables for others
 for p, t, asked in [(3, 5, 4), (3, 6, 4), (3, 4, 6), (3, 6, 6), (2, 4, 4), (4, 5, 5)]:
     show_by_table((3, 2, asked, 1), built(p, t, 24), [1122], 1)

@@ -100,13 +100,15 @@ fn by_table_changed() {
     show_changed(17, 19);
 }
 
-// 15: a buffer that ends at every length before the table does.
+// 15: a buffer that ends at every length before the table does; then with a wrong byte before its end, and with one after it.
 fn by_table_ended() {
     let mut len = 0;
     while len < 17 {
-        show_ended(len);
+        show_ended(len, 17);
         len += 1;
     }
+    show_ended(12, 9);
+    show_ended(12, 14);
 }
 
 // 15: tables that were built for another t, with other entries and with the same, and for another p; also with no words, and before 10
@@ -341,10 +343,11 @@ fn change(i: usize, table: &mut [u8]) {
     }
 }
 
-// The first bytes of that table, and no more.
-fn show_ended(len: usize) {
+// The first bytes of the table of p = 3, t = 4, and no more, with another byte at place i where it has one.
+fn show_ended(len: usize, i: usize) {
     let mut table = [7; 17];
     build(small(), &mut table);
+    change(i, &mut table);
     show_beginning(&table, len);
 }
 

@@ -25,10 +25,16 @@ loop-less c = search needs
 loop-again : tie.Need-loop-again Inv-loop μ-loop
 loop-again c = search needs
 
+show-ended-requires-2 : tie.Need-show-ended-requires-2 Inv-loop μ-loop
+show-ended-requires-2 c κs = search needs
+
+show-ended-requires-3 : tie.Need-show-ended-requires-3 Inv-loop μ-loop
+show-ended-requires-3 c κs = search needs
+
 returns : tie.Need-returns Inv-loop μ-loop
 returns c = search needs
 
 pub by-table-ended-spec : {M : Type 1} → statement M
 by-table-ended-spec =
     tie.close
-    (tie.spec Inv-loop μ-loop loop-holds show-ended-requires add-len loop-less loop-again returns)
+    (tie.spec Inv-loop μ-loop loop-holds show-ended-requires add-len loop-less loop-again show-ended-requires-2 show-ended-requires-3 returns)
