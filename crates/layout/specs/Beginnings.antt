@@ -9,7 +9,8 @@
 --     first-difference          the first differing byte, or the buffer's length if it ends first
 use Prim.Native.Nat.{ℕ, _≤_, _<_}
 use mathlib.Core.Path.{_≡_, refl, sym, ap, _∙_}
-use mathlib.Core.Bool.{Bool, true, false, not, _||_, _&&_, true≢false}
+use mathlib.Core.Bool.{Bool, true, false, not, _||_, _&&_, true≢false, or-true, and-eq-true-iff}
+use mathlib.Mathlib.Data.Bool.Basic.{or-eq-false-eq-eq-false-and-eq-false}
 use mathlib.Core.List.{List, [], _∷_}
 use mathlib.Core.Logic.{_↔_}
 use native.Mathlib.Decide.{decLe}
@@ -36,39 +37,27 @@ firstDifference buf bs = first (differs buf bs) (length bs) 0
 
 -- ---- at one place
 
-or-right : (b : Bool) → (b || true) ≡ true
-or-right true = refl
-or-right false = refl
-
-or-false : (a b : Bool) → (a || b) ≡ false → (a ≡ false) × (b ≡ false)
-or-false true b e = absurd (true≢false e)
-or-false false b e = (refl, e)
-
 module _ (buf bs : List ℕ) (i : ℕ) where
   pub differs-ended : length buf ≤ i → differs buf bs i ≡ true
   differs-ended h = rw (le-leb (length buf) i h)
 
   pub differs-byte : (coefficient buf i ≡ coefficient bs i → ⊥) → differs buf bs i ≡ true
-  differs-byte h = rw (ne-eqb (coefficient buf i) (coefficient bs i) h) (or-right (leb (length buf) i))
+  differs-byte h = rw (ne-eqb (coefficient buf i) (coefficient bs i) h) (or-true (leb (length buf) i))
 
   pub agrees : (differs buf bs i ≡ false) ↔ ((i < length buf) × (coefficient buf i ≡ coefficient bs i))
   agrees = (
-    λ e. let both = or-false (leb (length buf) i) _ e in
+    λ e. let both = or-eq-false-eq-eq-false-and-eq-false (leb (length buf) i) _ .0 e in
         (leb-false (length buf) i (both .0), eqb-true (coefficient buf i) (coefficient bs i) (not-false _ (both .1))),
     λ h. rw (lt-leb (length buf) i (h .0), eq-eqb (coefficient buf i) (coefficient bs i) (h .1)),
   )
 
 -- ---- at all of them
 
-and-true : (a b : Bool) → (a && b) ≡ true → (a ≡ true) × (b ≡ true)
-and-true true b e = (refl, e)
-and-true false b e = absurd (true≢false (sym e))
-
 cut : (buf bs : List ℕ) → startsWith buf bs ≡ true → take (length bs) buf ≡ bs
 cut buf [] e = refl
 cut [] (b ∷ bs) e = absurd (true≢false (sym e))
 cut (x ∷ buf) (b ∷ bs) e =
-    let both = and-true (eqb x b) (startsWith buf bs) e in
+    let both = and-eq-true-iff (eqb x b) (startsWith buf bs) .0 e in
     rw (eqb-true x b (both .0), cut buf bs (both .1))
 
 join : (buf bs : List ℕ) → take (length bs) buf ≡ bs → startsWith buf bs ≡ true

@@ -1,6 +1,7 @@
 -- Tables that fit. Assumes nothing.
 --     Tabled s                    what holds past 14: the setting has its bounds, and p is at most 127
 --     table-checked               so it is where nothing is refused up to 14
+--     table-range                 p and t are then in the range that a table's bytes have
 --     fits-through, fits-parted   a search for the first difference tells whether a buffer fits: it is through, or it has found one
 --     fits-size                   a buffer that fits is long enough
 --     fits-entries                and its entries are those of the table
@@ -22,7 +23,7 @@ use Rattle.polynomials.specs.Places.{shifted, reduced}
 use Rattle.polynomials.specs.TableLaws.{table-place, looked-up}
 use Rattle.layout.specs.Numbers.{bigEndian-only}
 use Rattle.layout.specs.Beginnings.{firstDifference, starts-with, starts-with-first}
-use Rattle.packed.specs.Limits.{largestTableModulus}
+use Rattle.packed.specs.Limits.{largestTableModulus, wordBits}
 use Rattle.packed.specs.Answers.{fine, refuse}
 use Rattle.packed.specs.AnswerLaws.{passed-first, passed-last}
 use Rattle.packed.specs.Settings.{settingChecks, base}
@@ -40,6 +41,9 @@ unfolding tableChecks
 table-checked s e =
     let a = passed-first (settingChecks s) (refuse (noTableCause (s .p)) 14 0) tt e in
     record { bounded = bounds s (a .0); small = ltb-false largestTableModulus (s .p) (passed-last (noTableCause (s .p)) 14 0 (a .1)) }
+
+pub table-range : (s : Setting) → Tabled s → (0 < s .p) × (s .p ≤ largestTableModulus) × (s .t < wordBits)
+table-range s h = (omega (arith, h .bounded .range .choice .p-low), h .small, omega (arith, h .bounded .range .t-high))
 
 module _ (s : Setting) (buf : List ℕ) where
   -- size and d are the table's size and the first difference, as the code has them

@@ -2,20 +2,17 @@
 --     within, inside          a range's test, and what it says
 --     in-choice, in-range     what passes 1 to 3, and 1 to 4, is in range
 use Prim.Native.Nat.{ℕ, _≤_}
-use mathlib.Core.Path.{_≡_, refl}
-use mathlib.Core.Bool.{Bool, true, false, _||_}
+use mathlib.Core.Path.{_≡_}
+use mathlib.Core.Bool.{false}
+use mathlib.Mathlib.Data.Bool.Basic.{or-eq-false-eq-eq-false-and-eq-false}
 use lib.Dec.{ltb}
 use borrow.Author.Tests.{ltb-false, le-ltb}
 use Rattle.packed.specs.Limits.{largestModulus, mostCoefficients, largestBatch, widest}
 use Rattle.packed.specs.Settings.{outside, modulusCause, lengthCause, batchCause, widthCause, InChoice, InRange}
 use Rattle.packed.specs.declared.setting.Setting.{Setting}
 
-neither : (a b : Bool) → (a || b) ≡ false → (a ≡ false) × (b ≡ false)
-neither true b e = (e, cc)
-neither false b e = (refl, e)
-
 pub within : (low high x : ℕ) → outside low high x ≡ false → (low ≤ x) × (x ≤ high)
-within low high x e = let h = neither (ltb x low) (ltb high x) e in (ltb-false x low (h .0), ltb-false high x (h .1))
+within low high x e = let h = or-eq-false-eq-eq-false-and-eq-false (ltb x low) (ltb high x) .0 e in (ltb-false x low (h .0), ltb-false high x (h .1))
 
 pub inside : (low high x : ℕ) → low ≤ x → x ≤ high → outside low high x ≡ false
 inside low high x l h = rw (le-ltb x low l, le-ltb high x h)

@@ -22,6 +22,7 @@ fn main() {
     by_table_word();
     by_table_lists();
     by_table_ends();
+    by_table_largest();
     pick_buffers();
 }
 
@@ -180,43 +181,23 @@ fn by_table_lists() {
     );
 }
 
-// The ends of p, k and t: words with every field at its largest, and words whose u are not their residues.
+// The ends of k and t, with p small: words with every field at its largest, and words whose u are not their residues.
 fn by_table_ends() {
-    let mut small_table = [7; 12];
-    build(
-        Setting {
-            p: 2,
-            k: 8,
-            t: 4,
-            n: 1,
-        },
-        &mut small_table,
-    );
-    show_by_table(
+    show_own(
         2,
         8,
         4,
         1,
-        &small_table,
+        &mut [7; 12],
         &[0, 1152921504606846975, 81985529216486895],
         &mut [7; 4],
     );
-    let mut wide_table = [7; 17];
-    build(
-        Setting {
-            p: 3,
-            k: 1,
-            t: 63,
-            n: 1,
-        },
-        &mut wide_table,
-    );
-    show_by_table(
+    show_own(
         3,
         1,
         63,
         1,
-        &wide_table,
+        &mut [7; 17],
         &[
             0,
             9223372036854775807,
@@ -225,22 +206,17 @@ fn by_table_ends() {
         ],
         &mut [7; 4],
     );
-    let mut large_table = [7; 16137];
-    build(
-        Setting {
-            p: 127,
-            k: 2,
-            t: 21,
-            n: 66,
-        },
-        &mut large_table,
-    );
-    show_by_table(
+}
+
+// The same at p = 127; and its table with another value in the last entry.
+fn by_table_largest() {
+    let mut table = [7; 16137];
+    show_own(
         127,
         2,
         21,
         66,
-        &large_table,
+        &mut table,
         &[
             0,
             9223372036854775807,
@@ -252,8 +228,8 @@ fn by_table_ends() {
         ],
         &mut [7; 8],
     );
-    large_table[16136] = other(large_table[16136]);
-    show_by_table(127, 2, 21, 66, &large_table, &[0], &mut [7; 1]);
+    change(16136, &mut table);
+    show_by_table(127, 2, 21, 66, &table, &[0], &mut [7; 1]);
 }
 
 // Two buffers in both orders: one of them stale, both sound, longer than the table. Then nothing to hand back: neither fits, by a byte or
@@ -355,6 +331,12 @@ fn show_beginning(table: &[u8], len: usize) {
     if len <= table.len() {
         show_by_table(3, 2, 4, 1, &table[0..len], &[1122], &mut [7; 1]);
     }
+}
+
+// By the setting's own table, built into a lent buffer.
+fn show_own(p: u64, k: u64, t: u64, n: u64, table: &mut [u8], words: &[u64], out: &mut [u64]) {
+    build(Setting { p, k, t, n }, table);
+    show_by_table(p, k, t, n, table, words, out);
 }
 
 // The table of p and t, where 3 and another width are asked for.

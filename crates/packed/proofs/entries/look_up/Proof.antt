@@ -14,6 +14,7 @@ use Rattle.polynomials.specs.Places.{packed, shifted, lookedUp}
 use Rattle.polynomials.specs.PlaceLaws.{packed-next, packed-fewer, field-next, power-power}
 use Rattle.polynomials.specs.ReductionLaws.{mul-mod, quotient-under, shifted-quotient}
 use Rattle.polynomials.specs.TableLaws.{table-place}
+use Rattle.packed.specs.Limits.{largestModulus}
 use Rattle.packed.proofs.entries.look_up.Statement.{statement}
 use Rattle.packed.proofs.entries.look_up.Tie as tie
 
@@ -56,6 +57,9 @@ module _ {p t m : ℕ} {held : List ℕ} {word rest quotient u weight w i : ℕ}
   inside : 0 < p → u + p * (rest / 2 ^ t - p * (quotient / 2 ^ t)) < p * p
   inside h = rw (above, turn .u-is) (table-place p (shifted p (2 ^ t) word i) (shifted p (2 ^ t) word (i + 1)) (mod-lt _ h) (mod-lt _ h))
 
+  place-fits : 0 < p → p ≤ largestModulus → u + p * (rest / 2 ^ t - p * (quotient / 2 ^ t)) < largestModulus * largestModulus
+  place-fits h l = lt-of-lt-of-le (inside h) (mul-le-mul l l)
+
   found : coefficient held (u + p * (rest / 2 ^ t - p * (quotient / 2 ^ t))) ≡ lookedUp p (2 ^ t) held word i
   found = rw (above, turn .u-is, add-one)
 
@@ -91,10 +95,6 @@ module _ {p t m : ℕ} {held : List ℕ} {word rest quotient u weight w i : ℕ}
 
 -- ---- the needs
 
--- the place fits a word
-place-fits : (c : tie.In-loop Inv-loop μ-loop) → c .before .loop .u + c .before .before .before .args .p * (c .before .loop .rest / 2 ^ c .before .before .before .args .t - c .before .before .before .args .p * (c .before .loop .quotient / 2 ^ c .before .before .before .args .t)) < 65536 * 65536
-place-fits c = lt-of-lt-of-le (inside (c .before .loop .inv) (c .before .before .before .pre .0)) (mul-le-mul (c .before .before .before .pre .1) (c .before .before .before .pre .1))
-
 div-quotient : tie.Need-div-quotient Inv-loop μ-loop
 div-quotient c = search needs
 
@@ -129,10 +129,10 @@ sub-above : tie.Need-sub-above Inv-loop μ-loop
 sub-above c = under (c .before .loop .inv)
 
 mul-place : tie.Need-mul-place Inv-loop μ-loop
-mul-place c = omega (arith, place-fits c)
+mul-place c = omega (arith, place-fits (c .before .loop .inv) (c .before .before .before .pre .0) (c .before .before .before .pre .1))
 
 add-place : tie.Need-add-place Inv-loop μ-loop
-add-place c = omega (arith, place-fits c)
+add-place c = omega (arith, place-fits (c .before .loop .inv) (c .before .before .before .pre .0) (c .before .before .before .pre .1))
 
 shared-slice-read-wide-byte : tie.Need-shared-slice-read-wide-byte Inv-loop μ-loop
 shared-slice-read-wide-byte c = lt-of-lt-of-le (inside (c .before .before .loop .inv) (c .before .before .before .before .pre .0)) (c .before .before .before .before .pre .4)

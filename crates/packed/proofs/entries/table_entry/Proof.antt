@@ -1,15 +1,20 @@
 -- `table_entry` meets its contract: no more than j is ever formed. Assumes nothing.
-use Prim.Native.Nat.{_+_, _-_, _*_, _/_, _%_, _≤_}
-use native.Mathlib.Nat.{mul-le-mul-right, mod-add-div, mod-lt}
+use Prim.Native.Nat.{ℕ, _+_, _-_, _*_, _/_, _%_, _≤_}
+use native.Mathlib.Nat.{mul-le-mul-right, mod-add-div, mod-lt, lt-of-le-of-lt, lt-of-lt-of-le}
 use native.Mathlib.Omega.{arith}
 use Rattle.polynomials.specs.TableLaws.{entry-sum}
+use mir.Syntax.{w64}
+use mir.Val.{Fits}
 use borrow.Author.Needs.{needs}
 use Rattle.packed.proofs.entries.table_entry.Statement.{statement}
 use Rattle.packed.proofs.entries.table_entry.Tie as tie
 
--- what is added is at most p v, and so at most j
-under : (c : tie.Start) → (c .args .p - c .args .q) * (c .args .j / c .args .p) ≤ c .args .p * (c .args .j / c .args .p)
-under c = mul-le-mul-right {m = c .args .p - c .args .q} {n = c .args .p} (c .args .j / c .args .p) (omega arith)
+-- whatever is taken x times, for x up to p, the sum is no more than j: so it fits
+fits-sum : (p j x : ℕ) → x ≤ p → Fits w64 j → Fits w64 (j % p + x * (j / p))
+fits-sum p j x h fits = record { fits = lt-of-le-of-lt (omega (arith, mul-le-mul-right {m = x} {n = p} (j / p) h, mod-add-div j p)) (fits .fits) }
+
+fits-product : (p j x : ℕ) → x ≤ p → Fits w64 j → Fits w64 (x * (j / p))
+fits-product p j x h fits = record { fits = omega (arith, fits-sum p j x h fits .fits) }
 
 rem-result : tie.Need-rem-result
 rem-result c = search needs
@@ -21,16 +26,16 @@ div-result : tie.Need-div-result
 div-result c = search needs
 
 mul-result : tie.Need-mul-result
-mul-result c = omega (arith, under c, mod-add-div (c .args .j) (c .args .p))
+mul-result c = fits-product _ _ _ (omega arith) (record { fits = omega arith })
 
 add-result : tie.Need-add-result
-add-result c = omega (arith, under c, mod-add-div (c .args .j) (c .args .p))
+add-result c = fits-sum _ _ _ (omega arith) (record { fits = omega arith })
 
 rem-result-2 : tie.Need-rem-result-2
 rem-result-2 c = search needs
 
 cast-result : tie.Need-cast-result
-cast-result c = record { fits = omega (arith, mod-lt (c .args .j % c .args .p + (c .args .p - c .args .q) * (c .args .j / c .args .p)) (c .pre .0)) }
+cast-result c = record { fits = lt-of-lt-of-le (mod-lt _ (c .pre .0)) (omega arith) }
 
 returns : tie.Need-returns
 returns c = entry-sum (c .args .p) (c .args .q) (c .args .j) (c .pre .0) (omega arith)

@@ -11,7 +11,7 @@ use Rattle.packed.specs.SharedAnswers.{writes-nothing, writes-list}
 use Rattle.packed.specs.Settings.{checkedSays}
 use Rattle.packed.specs.Tables.{table, tableSize, tableChecks, buildChecks}
 use Rattle.packed.specs.TableLaws.{table-length}
-use Rattle.packed.specs.FitLaws.{table-checked}
+use Rattle.packed.specs.FitLaws.{table-checked, table-range}
 use Rattle.packed.proofs.tables.build.Statement.{statement}
 use Rattle.packed.proofs.tables.build.Tie as tie
 
@@ -51,8 +51,8 @@ returns-2 c =
 
 write-table-requires : tie.Need-write-table-requires
 write-table-requires c κs =
-    let t = table-checked (c .before .before .before .before .before .before .before .args .s) (tabled (c .before .before .before)) in
-    (omega (arith, t .bounded .range .choice .p-low), t .small, omega (arith, t .bounded .range .t-high), room (c .before))
+    let range = table-range (c .before .before .before .before .before .before .before .args .s) (table-checked (c .before .before .before .before .before .before .before .args .s) (tabled (c .before .before .before))) in
+    (range .0, range .1, range .2, room (c .before))
 
 same-length : tie.Need-same-length
 same-length c = search needs

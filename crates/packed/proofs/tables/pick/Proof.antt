@@ -1,26 +1,20 @@
 -- `pick` meets its promise. Assumes nothing.
-use Prim.Native.Nat.{_-_, _<_, _≤_}
+use Prim.Native.Nat.{_-_}
 use mathlib.Core.Path.{_≡_, sym, ap, _∙_}
 use mathlib.Core.Bool.{true, false}
 use native.Mathlib.Omega.{arith}
 use borrow.Author.Needs.{needs}
 use denote.Ref.{now}
 use Rattle.packed.specs.Answers.{fine}
-use Rattle.packed.specs.Limits.{largestTableModulus, wordBits}
 use Rattle.packed.specs.Settings.{checkedSays}
 use Rattle.packed.specs.Tables.{tableChecks, fits}
-use Rattle.packed.specs.FitLaws.{table-checked, fits-through, fits-parted, fits-size, fits-entries}
+use Rattle.packed.specs.FitLaws.{table-checked, table-range, fits-through, fits-parted, fits-size, fits-entries}
 use Rattle.packed.proofs.tables.pick.Statement.{statement}
 use Rattle.packed.proofs.tables.pick.Tie as tie
 
 -- past 14
 tabled : (c : tie.After-enum-told) → tableChecks (c .before .before .before .before .before .args .s) ≡ fine
 tabled c = sym (c .before .before .check-table .ensures) ∙ ap checkedSays (c .enum-told .given .1)
-
-searched : (c : tie.After-enum-told) → (0 < c .before .before .before .before .before .args .s .p) × (c .before .before .before .before .before .args .s .p ≤ largestTableModulus) × (c .before .before .before .before .before .args .s .t < wordBits)
-searched c =
-    let t = table-checked (c .before .before .before .before .before .args .s) (tabled c) in
-    (omega (arith, t .bounded .range .choice .p-low), t .small, omega (arith, t .bounded .range .t-high))
 
 -- the first buffer fits, or not; and so the second
 first-fits : (c : tie.Then1) → fits (c .before .before .before .before .before .before .before .before .args .s) (now (c .before .before .before .before .before .before .before .before .args .first)) ≡ true
@@ -55,10 +49,10 @@ returns c =
     (rw stopped, rw stopped)
 
 table-size-requires : tie.Need-table-size-requires
-table-size-requires c κs = searched c .1
+table-size-requires c κs = table-checked (c .before .before .before .before .before .args .s) (tabled c) .small
 
 first-difference-requires : tie.Need-first-difference-requires
-first-difference-requires c κs = searched (c .before)
+first-difference-requires c κs = table-range (c .before .before .before .before .before .before .args .s) (table-checked (c .before .before .before .before .before .before .args .s) (tabled (c .before)))
 
 sub-result : tie.Need-sub-result
 sub-result c = search needs
@@ -77,7 +71,7 @@ returns-2 c =
     (rw (tabled (c .before .before .before .before), fit) (fits-entries (a .s) (now (a .first)) (size .result) (size .ensures) fit), rw (tabled (c .before .before .before .before), fit))
 
 first-difference-requires-2 : tie.Need-first-difference-requires-2
-first-difference-requires-2 c κs = searched (c .before .before .before)
+first-difference-requires-2 c κs = table-range (c .before .before .before .before .before .before .before .before .args .s) (table-checked (c .before .before .before .before .before .before .before .before .args .s) (tabled (c .before .before .before)))
 
 sub-result-2 : tie.Need-sub-result-2
 sub-result-2 c = search needs

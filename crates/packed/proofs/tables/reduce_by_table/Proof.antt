@@ -13,7 +13,7 @@ use Rattle.packed.specs.Answers.{fine, refused}
 use Rattle.packed.specs.SharedAnswers.{writes-nothing, writes-filled}
 use Rattle.packed.specs.Settings.{checkedSays}
 use Rattle.packed.specs.Tables.{fits, badWord, firstBadWord, tableChecks, byTableChecks, reducedWordAt, reducedWords, ReducesByTable}
-use Rattle.packed.specs.FitLaws.{Tabled, table-checked, fits-through, fits-parted, fits-size, fits-entries}
+use Rattle.packed.specs.FitLaws.{Tabled, table-checked, table-range, fits-through, fits-parted, fits-size, fits-entries}
 use Rattle.packed.specs.ByTableLaws.{stale-checks, ByTable, by-table-checked}
 use Rattle.packed.specs.declared.setting.Setting.{Setting}
 use Rattle.packed.specs.declared.refusals.Refusal.{Refusal}
@@ -73,9 +73,7 @@ table-size-requires : tie.Need-table-size-requires
 table-size-requires c κs = opened c .small
 
 first-difference-requires : tie.Need-first-difference-requires
-first-difference-requires c κs =
-    let t = opened (c .before) in
-    (omega (arith, t .bounded .range .choice .p-low), t .small, omega (arith, t .bounded .range .t-high))
+first-difference-requires c κs = table-range (c .before .before .before .before .before .before .before .args .s) (opened (c .before))
 
 stale-requires : tie.Need-stale-requires
 stale-requires c κs = search needs
