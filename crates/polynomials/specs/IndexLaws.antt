@@ -3,15 +3,16 @@
 --     upto-most                                     no element is above f's value there, also past the end
 --     filled-more                                   a filling loop's turn at i
 --     sum-zero, sum-front, sum-same, sum-window     sums: of zeros; first term apart; term by term; of a window of terms
+--     sum-join, sum-fewer, sum-part                 some terms and then more; fewer are no more; a part, where the others are zero
 --     first-is, first-only                          the search finds what First says, and First says it of one number only
 --     first-none                                    it is through exactly where the test holds at none of the numbers from 0
 --     first-found, first-passed, first-ended        a searching loop's turn at i: it stops, it goes on, it is through
 use Prim.Native.Nat.{ℕ, zero, suc, _+_, _-_, _*_, _≤_, _<_, min, zero-le}
-use mathlib.Core.Path.{_≡_, refl, sym, ap, _∙_, fun-ext}
+use mathlib.Core.Path.{_≡_, refl, sym, ap, _∙_}
 use mathlib.Core.Bool.{Bool, true, false, true≢false}
 use mathlib.Core.Logic.{_↔_, ⊎-elim}
 use mathlib.Core.List.{List, [], _∷_}
-use native.Mathlib.Nat.{not-suc-le-zero, le-of-suc-le-suc, eq-or-lt-of-le, mul-le-mul-right, suc-mul}
+use native.Mathlib.Nat.{not-suc-le-zero, le-of-suc-le-suc, eq-or-lt-of-le, mul-le-mul-right, suc-mul, add-zero, add-suc}
 use native.Mathlib.Decide.{decLt}
 use native.Mathlib.Numerals.{add-one}
 use native.Mathlib.Omega.{arith}
@@ -50,16 +51,21 @@ filled-more f old now i v h e w =
 
 -- ---- sums
 
-pub sum-zero : (n : ℕ) (f : ℕ → ℕ) → ((i : ℕ) → f i ≡ 0) → sumTo n f ≡ 0
+pub sum-zero : (n : ℕ) (f : ℕ → ℕ) → ((i : ℕ) → i < n → f i ≡ 0) → sumTo n f ≡ 0
 sum-zero zero f h = refl
-sum-zero (suc n) f h = omega (arith, sum-zero n f h, h n)
+sum-zero (suc n) f h = omega (arith, sum-zero n f (λ i l. h i (omega arith)), h n (omega arith))
 
 pub sum-front : (n : ℕ) (f : ℕ → ℕ) → sumTo (suc n) f ≡ f 0 + sumTo n (λ i. f (suc i))
 sum-front zero f = omega arith
 sum-front (suc n) f = omega (arith, sum-front n f)
 
-pub sum-same : (n : ℕ) (f g : ℕ → ℕ) → ((i : ℕ) → f i ≡ g i) → sumTo n f ≡ sumTo n g
-sum-same n f g h = ap (λ (k : ℕ → ℕ). sumTo n k) (fun-ext h)
+pub sum-same : (n : ℕ) (f g : ℕ → ℕ) → ((i : ℕ) → i < n → f i ≡ g i) → sumTo n f ≡ sumTo n g
+sum-same zero f g h = refl
+sum-same (suc n) f g h = omega (arith, sum-same n f g (λ i l. h i (omega arith)), h n (omega arith))
+
+pub sum-join : (f : ℕ → ℕ) (m n : ℕ) → sumTo (m + n) f ≡ sumTo m f + sumTo n (λ r. f (m + r))
+sum-join f m zero = rw (add-zero m) (omega arith)
+sum-join f m (suc n) = rw add-suc (omega (arith, sum-join f m n))
 
 -- terms of at most c, and none below lo or from hi on
 pub sum-window : (lo hi c : ℕ) (f : ℕ → ℕ) → ((i : ℕ) → f i ≤ c) → ((i : ℕ) → i < lo → f i ≡ 0) → ((i : ℕ) → hi ≤ i → f i ≡ 0)
@@ -76,6 +82,17 @@ sum-window lo hi c f most low high (suc n) = go (sum-window lo hi c f most low h
     go ih (no h) (yes g) =
         let e : min (suc n) hi - lo ≡ suc (min n hi - lo) = omega arith in
         rw (e, suc-mul) (omega (arith, most n))
+
+pub sum-fewer : (f : ℕ → ℕ) (m n : ℕ) → m ≤ n → sumTo m f ≤ sumTo n f
+sum-fewer f m n h = let e : m + (n - m) ≡ n = omega arith in rw (← e, sum-join f m (n - m)) (omega arith)
+
+pub sum-part : (f : ℕ → ℕ) (lo m n : ℕ) → lo + m ≤ n → ((i : ℕ) → i < lo → f i ≡ 0) → ((i : ℕ) → lo + m ≤ i → i < n → f i ≡ 0) → sumTo n f ≡ sumTo m (λ r. f (lo + r))
+sum-part f lo m n h low high =
+    let e : lo + m + (n - (lo + m)) ≡ n = omega arith in
+    let before : sumTo lo f ≡ 0 = sum-zero lo f low in
+    let after : sumTo (n - (lo + m)) (λ r. f (lo + m + r)) ≡ 0 = sum-zero (n - (lo + m)) (λ r. f (lo + m + r)) (λ r l. high (lo + m + r) (omega arith) (omega arith)) in
+    let parts : sumTo (lo + m + (n - (lo + m))) f ≡ sumTo (lo + m) f + sumTo (n - (lo + m)) (λ r. f (lo + m + r)) = sum-join f (lo + m) (n - (lo + m)) in
+    rw e at parts ∙ omega (arith, sum-join f lo m)
 
 -- ---- searches
 

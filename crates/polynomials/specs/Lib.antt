@@ -2,10 +2,12 @@
 pub mod Indices
 pub mod Lists
 pub mod Places
+pub mod Blocks
 pub mod IndexLaws
 pub mod ListLaws
 pub mod BoundLaws
 pub mod PlaceLaws
 pub mod ReductionLaws
 pub mod TableLaws
+pub mod BlockLaws
 pub mod Examples

@@ -4,6 +4,8 @@
 --     coefficient-past                     zero past the end
 --     coefficient-after                    past a first list, that of the second
 --     coefficient-zeros                    zeros at the high end change no coefficient
+--     filled-at, filled-after, length-filled
+--                                          a filled list: what was written, what was there, and its length
 --     length-LIST, coefficient-LIST        of a sum, a scaled list, a product, residues, each under that name
 --     product-row                          the first factor's lowest coefficient apart
 use Prim.Native.Nat.{ℕ, zero, suc, _+_, _-_, _*_, _%_, _≤_, _<_, max}
@@ -12,9 +14,9 @@ use mathlib.Core.List.{List, [], _∷_, _++_}
 use native.Mathlib.Nat.{zero-add, add-zero, zero-mul, mul-zero, zero-mod, sub-zero, suc-sub-suc}
 use native.Mathlib.Decide.{decLt}
 use native.Mathlib.Omega.{arith}
-use lib.ListN.{length, replicate, List·getD-eq-default}
-use lib.Seq.{ext-getD, getD-append-add}
-use Rattle.polynomials.specs.Indices.{upto}
+use lib.ListN.{length, replicate, drop, length-append, length-drop, List·getD-append, List·getD-eq-default}
+use lib.Seq.{ext-getD, getD-append-add, getD-drop}
+use Rattle.polynomials.specs.Indices.{upto, filled}
 use Rattle.polynomials.specs.Lists.{coefficient, sum, scaled, productLength, productAt, product, residues}
 use Rattle.polynomials.specs.IndexLaws.{length-upto, upto-at, upto-past, sum-zero, sum-front, sum-same}
 
@@ -33,6 +35,18 @@ pub coefficient-after : (xs ys : List ℕ) (j : ℕ) → length xs ≤ j → coe
 coefficient-after xs ys j h =
     let split : length xs + (j - length xs) ≡ j = omega arith in
     rw split at (getD-append-add xs ys (j - length xs) 0)
+
+-- a filled list: what was written, what was there, and its length
+pub filled-at : (m : ℕ) (f : ℕ → ℕ) (old : List ℕ) (i : ℕ) → i < m → coefficient (filled m f old) i ≡ f i
+filled-at m f old i h = List·getD-append (upto m f) (drop m old) 0 i (rw length-upto h) ∙ upto-at m f i h
+
+pub filled-after : (m : ℕ) (f : ℕ → ℕ) (old : List ℕ) (i : ℕ) → m ≤ i → coefficient (filled m f old) i ≡ coefficient old i
+filled-after m f old i h =
+    let there : m + (i - m) ≡ i = omega arith in
+    coefficient-after (upto m f) (drop m old) i (rw length-upto h) ∙ rw (length-upto, getD-drop, there)
+
+pub length-filled : (m : ℕ) (f : ℕ → ℕ) (old : List ℕ) → m ≤ length old → length (filled m f old) ≡ length old
+length-filled m f old h = simp (length-append, length-upto, length-drop) (omega arith)
 
 zeros-at : (z j : ℕ) → coefficient (replicate z 0) j ≡ 0
 zeros-at zero j = refl
@@ -84,7 +98,7 @@ length-product xs ys = length-upto (productLength (length xs) (length ys)) (prod
 
 -- a schoolbook sum in which every term has a factor past its list's end
 productAt-past : (xs ys : List ℕ) (j : ℕ) → ((i : ℕ) → i < length xs → length ys ≤ j - i) → productAt xs ys j ≡ 0
-productAt-past xs ys j h = sum-zero (suc j) (λ i. coefficient xs i * coefficient ys (j - i)) (λ i. term i (decLt i (length xs)))
+productAt-past xs ys j h = sum-zero (suc j) (λ i. coefficient xs i * coefficient ys (j - i)) (λ i l. term i (decLt i (length xs)))
   where
     term : (i : ℕ) → Dec (i < length xs) → coefficient xs i * coefficient ys (j - i) ≡ 0
     term i (yes l) = rw (coefficient-past ys (j - i) (h i l), mul-zero)
@@ -113,5 +127,5 @@ product-row x xs ys (suc j) =
     ∙ sym (
     coefficient-sum (scaled x ys) (0 ∷ product xs ys) (suc j)
     ∙ rw (coefficient-scaled x ys (suc j), coefficient-product xs ys j, sum-front (suc j) (λ i. coefficient (x ∷ xs) i * coefficient ys (suc j - i)), sub-zero)
-    (ap (λ (n : ℕ). x * coefficient ys (suc j) + n) (sum-same (suc j) (λ i. coefficient xs i * coefficient ys (j - i)) (λ i. coefficient xs i * coefficient ys (suc j - suc i)) (λ i. rw suc-sub-suc)))
+    (ap (λ (n : ℕ). x * coefficient ys (suc j) + n) (sum-same (suc j) (λ i. coefficient xs i * coefficient ys (j - i)) (λ i. coefficient xs i * coefficient ys (suc j - suc i)) (λ i l. rw suc-sub-suc)))
     )

@@ -5,6 +5,7 @@
 --                                  the packed number of a sum, .. is the sum, .. of the packed numbers
 --     packed-most                  smaller coefficients pack to a smaller number
 --     packed-snoc                  the highest place apart
+--     packed-four                  four places more
 --     packed-next, packed-fewer    packing from the lowest place up: the turn from place i to the one above; fewer places give no more
 --     packed-turn, packed-part     packing from the highest place down: the turn from place i to the one below; a part is at most the whole
 --     field-packed, fields-packed  the fields of a packed list give it back
@@ -12,6 +13,9 @@
 --     packed-fields                packing the fields of a number gives it back
 --     packed-fields-most           packing some of them gives no more
 --     field-next                   a place up: what stands from there on
+--     one-power, packed-one        in the base 1 places do not count: no coefficient is above the sum of all of them
+--     packed-one-most              which is at most p for each, if they are below p
+--     packed-same                  lists that pack to one number in every base have the same coefficients
 --     packed-below                 fields below q: a number below q^m, for m of them
 --     packed-top                   lower fields below q and the top one at most c: a number below (c + 1) q^m
 --     top-place                    a number reaches q^(m+1) exactly where what stands from place m on reaches q
@@ -78,6 +82,19 @@ packed-snoc q (y ∷ xs) x = rw (packed-snoc q xs x, pow-succ') (omega arith)
 pub packed-next : (q : ℕ) (f : ℕ → ℕ) (i : ℕ) → packed q (upto (i + 1) f) ≡ packed q (upto i f) + f i * q ^ i
 packed-next q f i = rw add-one (packed-snoc q (upto i f) (f i) ∙ rw length-upto)
 
+-- four places more
+pub packed-four : (q : ℕ) (f : ℕ → ℕ) (i : ℕ)
+    → packed q (upto (i + 4) f) ≡ packed q (upto i f) + (f i * q ^ i + f (i + 1) * q ^ (i + 1) + f (i + 2) * q ^ (i + 2) + f (i + 3) * q ^ (i + 3))
+packed-four q f i =
+    let one = packed-next q f i in
+    let two : packed q (upto (i + 2) f) ≡ packed q (upto (i + 1) f) + f (i + 1) * q ^ (i + 1) = rw (next 1) at (packed-next q f (i + 1)) in
+    let three : packed q (upto (i + 3) f) ≡ packed q (upto (i + 2) f) + f (i + 2) * q ^ (i + 2) = rw (next 2) at (packed-next q f (i + 2)) in
+    let four : packed q (upto (i + 4) f) ≡ packed q (upto (i + 3) f) + f (i + 3) * q ^ (i + 3) = rw (next 3) at (packed-next q f (i + 3)) in
+    omega arith
+  where
+    next : (n : ℕ) → i + n + 1 ≡ i + (n + 1)
+    next n = omega arith
+
 pub packed-fewer : (q : ℕ) (f : ℕ → ℕ) (i m : ℕ) → i ≤ m → packed q (upto i f) ≤ packed q (upto m f)
 packed-fewer q f i m h = packed-most q (upto i f) (upto m f) (λ j. at j (decLt j i))
   where
@@ -128,6 +145,27 @@ packed-fields-most q hq m r = rw (packed-fields-mod q hq m r) (mod-le r (q ^ m))
 
 pub field-next : (q r i : ℕ) → r / q ^ i / q ≡ r / q ^ (i + 1)
 field-next q r i = rw (add-one, pow-suc, div-div-eq-div-mul)
+
+-- ---- every base
+
+pub packed-one : (xs : List ℕ) (j : ℕ) → coefficient xs j ≤ packed 1 xs
+packed-one [] j = omega arith
+packed-one (x ∷ xs) zero = omega arith
+packed-one (x ∷ xs) (suc j) = omega (arith, packed-one xs j)
+
+pub one-power : (n : ℕ) → 1 ^ n ≡ 1
+one-power zero = pow-zero 1
+one-power (suc n) = rw pow-succ' (omega (arith, one-power n))
+
+pub packed-one-most : (p : ℕ) (xs : List ℕ) → Below p xs → packed 1 xs ≤ length xs * p
+packed-one-most p [] h = zero-le
+packed-one-most p (x ∷ xs) h = rw (suc-mul (length xs)) (omega (arith, h 0, packed-one-most p xs (λ j. h (suc j))))
+
+pub packed-same : (xs ys : List ℕ) → ((q : ℕ) → packed q xs ≡ packed q ys) → (j : ℕ) → coefficient xs j ≡ coefficient ys j
+packed-same xs ys h j =
+    let q : ℕ = suc (packed 1 xs) in
+    let same : packed 1 ys ≡ packed 1 xs = sym (h 1) in
+    sym (field-packed q xs (λ i. omega (arith, packed-one xs i)) j) ∙ rw (h q) (field-packed q ys (λ i. omega (arith, packed-one ys i)) j)
 
 -- ---- bounds
 
