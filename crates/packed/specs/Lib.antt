@@ -9,7 +9,12 @@ pub mod Coefficients
 pub mod SharedAnswers
 pub mod Places
 pub mod Tables
+pub mod Overflow
+pub mod Products
 pub mod Bounds
+pub mod BatchLaws
+pub mod Gathering
+pub mod GatherLaws
 pub mod WordLaws
 pub mod TableLaws
 pub mod FitLaws
@@ -18,4 +23,6 @@ pub mod RoundTrips
 pub mod ReduceLaws
 pub mod ByTableLaws
 pub mod BuildLaws
+pub mod OverflowLaws
+pub mod ProductLaws
 pub mod Examples

@@ -19,3 +19,6 @@ wordBits = 64
 
 abbrev pub largestTableModulus : ℕ
 largestTableModulus = 127
+
+abbrev pub longestFactor : ℕ
+longestFactor = 4096

@@ -1,8 +1,11 @@
 // Polynomials with coefficients modulo p, packed into one 64-bit word, a coefficient to every t bits.
 pub mod answers;
+mod blocks;
 mod entries;
 mod limits;
+mod overflow;
 pub mod places;
+pub mod products;
 pub mod refusals;
 pub mod setting;
 pub mod tables;

@@ -10,3 +10,5 @@ pub const WIDEST: u64 = 63;
 pub const WORD_BITS: u64 = 64;
 
 pub const LARGEST_TABLE_MODULUS: u64 = 127;
+
+pub const LONGEST_FACTOR: usize = 4096;

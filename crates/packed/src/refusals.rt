@@ -61,6 +61,11 @@ pub const NO_TABLE: Refusal = Refusal {
     place: 0,
 };
 
+pub const OVERFLOW: Refusal = Refusal {
+    number: 18,
+    place: 0,
+};
+
 // 8 Coefficient, at the first bad index.
 pub(crate) fn coefficient(place: usize) -> Refusal
     ensures { λ r. ⌜ (r .number ≡ 8) × (r .place ≡ place) ⌝ }

@@ -1,13 +1,13 @@
 // The loops and the arithmetic under the public calls. Nothing is refused here: each function states what it assumes, of the numbers it
 // is given and not of the rule that accepted them.
 ghost use mathlib.Core.Path.{_≡_};
-ghost use Prim.Native.Nat.{_-_, _*_, _^_, _<_, _≤_};
+ghost use Prim.Native.Nat.{_+_, _-_, _*_, _^_, _<_, _≤_};
 ghost use lib.ListN.{length};
 ghost use Rattle.polynomials.specs.Indices.{upto, filled};
 ghost use Rattle.polynomials.specs.Places.{packed, field, shifted, reduced};
 ghost use Rattle.packed.specs.Limits.{largestModulus, mostCoefficients, wordBits};
 ghost use Rattle.packed.specs.Bounds.{Bounds};
-ghost use Rattle.packed.specs.Coefficients.{firstBad, taken, takenOne};
+ghost use Rattle.packed.specs.Coefficients.{firstBad, firstBadOfTwo, taken, takenOne};
 ghost use Rattle.packed.specs.Places.{wordCause};
 ghost use Rattle.packed.specs.Tables.{firstBadWord};
 use crate::setting::Setting;
@@ -48,6 +48,18 @@ pub fn first_bad(p: u64, xs: &[u16]) -> usize
         i += 1;
     }
     i
+}
+
+// In two lists the first is searched first, and an index in the second has the first's length added.
+pub fn first_bad_of_two(p: u64, xs: &[u16], ys: &[u16]) -> usize
+    requires { ⌜ length (now xs) + length (now ys) < 2 ^ wordBits ⌝ }
+    ensures { λ r. ⌜ r ≡ firstBadOfTwo p (now (xs .entry)) (now (ys .entry)) ⌝ }
+{
+    let bad = first_bad(p, xs);
+    if bad < xs.len() {
+        return bad;
+    }
+    xs.len() + first_bad(p, ys)
 }
 
 // The index of the first word that meets 11, or the list's length where there is none.

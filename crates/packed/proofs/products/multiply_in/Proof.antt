@@ -1,0 +1,108 @@
+-- `multiply_in` meets its contract. Assumes nothing.
+use Prim.Native.Nat.{ℕ, _+_, _-_, _≤_}
+use mathlib.Core.Path.{_≡_, refl, sym}
+use mathlib.Core.Bool.{Bool, true, not, true≢false}
+use mathlib.Core.List.{List}
+use native.Mathlib.Omega.{arith}
+use lib.ListN.{length}
+use denote.Ref.{now}
+use borrow.Author.Needs.{needs}
+use Rattle.polynomials.specs.Blocks.{blocks}
+use Rattle.polynomials.specs.BlockLaws.{blocks-few}
+use Rattle.packed.specs.Limits.{longestFactor}
+use Rattle.packed.specs.Gathering.{Packing}
+use Rattle.packed.specs.GatherLaws.{blocks-lie, sums-enough, sums-works}
+use Rattle.packed.specs.declared.setting.Setting.{Setting}
+use Rattle.packed.proofs.products.multiply_in.Statement.{statement}
+use Rattle.packed.proofs.products.multiply_in.Tie as tie
+
+few : (s : Setting) (xs : List ℕ) → Packing s xs → (m : ℕ) → m ≡ blocks (s .k) (length xs) → m ≤ longestFactor
+few s xs h m e = omega (arith, h .size, blocks-few (s .k) (length xs) (h .bounded .range .choice .k-low))
+
+never : (r : Bool) → r ≡ true → not r ≡ true → ⊥
+never r e h = true≢false (sym (rw e at h))
+
+block-count-requires : tie.Need-block-count-requires
+block-count-requires c κs = search needs
+
+pack-blocks-requires : tie.Need-pack-blocks-requires
+pack-blocks-requires c κs =
+    let a = c .before .before .before .before .before .before .before .before .args in
+    let pre = c .before .before .before .before .before .before .before .before .pre in
+    let m = c .before .block-count in
+    (pre .0 .left, few (a .s) (now (a .a)) (pre .0 .left) (m .result) (m .ensures), omega (arith, m .ensures, pre .1 .left .room))
+
+block-count-requires-2 : tie.Need-block-count-requires-2
+block-count-requires-2 c κs = search needs
+
+pack-back-requires : tie.Need-pack-back-requires
+pack-back-requires c κs =
+    let a = c .before .before .before .before .before .before .before .before .before .before .before .before .before .args in
+    let pre = c .before .before .before .before .before .before .before .before .before .before .before .before .before .pre in
+    let n = c .before .block-count2 in
+    (pre .0 .right, few (a .s) (now (a .b)) (pre .0 .right) (n .result) (n .ensures), omega (arith, n .ensures, pre .1 .right .room))
+
+gather-requires : tie.Need-gather-requires
+gather-requires c κs = let a = c .before .before .before .before .before .before .before .before .before .before .before .before .before .before .before .before .before .before .before .args in blocks-lie (a .s) (now (a .a)) (now (a .b)) (now (a .out)) (now (a .xs)) (now (a .ys)) (now (a .sums)) (c .before .before .before .before .before .before .before .before .before .before .before .before .before .before .before .before .before .before .before .pre .0) (c .before .before .before .before .before .before .before .before .before .before .before .before .before .before .before .before .before .before .before .pre .1) (c .before .before .before .before .before .before .before .before .before .before .before .before .block-count .result) (c .before .before .before .before .before .before .before .block-count2 .result) (c .before .before .before .before .before .before .before .before .before .before .before .before .block-count .ensures) (c .before .before .before .before .before .before .before .block-count2 .ensures) (c .before .before .before .before .before .before .before .before .before .before .pack-blocks .ensures) (c .before .before .before .before .before .pack-back .ensures)
+
+same-length : tie.Need-same-length
+same-length c = search needs
+
+same-length-2 : tie.Need-same-length-2
+same-length-2 c = search needs
+
+same-length-3 : tie.Need-same-length-3
+same-length-3 c = search needs
+
+returns : tie.Need-returns
+returns c = absurd (never (c .before .before .before .gather .result) (c .before .before .before .gather .ensures .0) (c .if1 .taken))
+
+add-write-remainders : tie.Need-add-write-remainders
+add-write-remainders c = search needs
+
+sub-write-remainders : tie.Need-sub-write-remainders
+sub-write-remainders c = search needs
+
+write-remainders-requires : tie.Need-write-remainders-requires
+write-remainders-requires c κs =
+    let a = c .before .before .before .before .before .before .before .before .before .before .before .before .before .before .before .before .before .before .before .before .before .before .before .before .before .args in
+    let pre = c .before .before .before .before .before .before .before .before .before .before .before .before .before .before .before .before .before .before .before .before .before .before .before .before .before .pre .0 in
+    let range = pre .left .bounded .range .choice in
+    (omega (arith, range .p-low), range .p-high, rw (c .before .before .before .before .before .gather .ensures .1 .size) (sums-enough (a .s) (now (a .a)) (now (a .b)) (now (a .out)) (now (a .xs)) (now (a .ys)) (now (a .sums)) (c .before .before .before .before .before .before .before .before .before .before .before .before .before .before .before .before .before .before .before .before .before .before .before .before .before .pre .0) (c .before .before .before .before .before .before .before .before .before .before .before .before .before .before .before .before .before .before .before .before .before .before .before .before .before .pre .1) (c .before .before .before .before .before .before .before .before .before .before .before .before .before .before .before .before .before .before .block-count .result) (c .before .before .before .before .before .before .before .before .before .before .before .before .before .block-count2 .result) (c .before .before .before .before .before .before .before .before .before .before .before .before .before .before .before .before .before .before .block-count .ensures) (c .before .before .before .before .before .before .before .before .before .before .before .before .before .block-count2 .ensures)), omega (arith, pre .room))
+
+same-length-4 : tie.Need-same-length-4
+same-length-4 c = search needs
+
+same-length-5 : tie.Need-same-length-5
+same-length-5 c = search needs
+
+same-length-6 : tie.Need-same-length-6
+same-length-6 c = search needs
+
+same-length-7 : tie.Need-same-length-7
+same-length-7 c = search needs
+
+returns-2 : tie.Need-returns-2
+returns-2 c = let a = c .before .before .before .before .before .before .before .before .before .before .before .before .before .before .before .before .before .before .before .before .before .before .before .before .before .before .before .before .args in (refl, sums-works (a .s) (now (a .a)) (now (a .b)) (now (a .out)) (now (a .xs)) (now (a .ys)) (now (a .sums)) (c .before .before .before .before .before .before .before .before .before .before .before .before .before .before .before .before .before .before .before .before .before .before .before .before .before .before .before .before .pre .0) (c .before .before .before .before .before .before .before .before .before .before .before .before .before .before .before .before .before .before .before .before .before .before .before .before .before .before .before .before .pre .1) (c .before .before .before .before .before .before .before .before .before .before .before .before .before .before .before .before .before .before .before .before .before .block-count .result) (c .before .before .before .before .before .before .before .before .before .before .before .before .before .before .before .before .block-count2 .result) (c .before .before .before .before .before .before .before .before .before .before .before .before .before .before .before .before .before .before .before .before .before .block-count .ensures) (c .before .before .before .before .before .before .before .before .before .before .before .before .before .before .before .before .block-count2 .ensures) (c .before .before .before .before .before .before .before .before .gather .ensures .1) (c .before .before .write-remainders .ensures))
+
+pub multiply-in-spec : {M : Type 1} → statement M
+multiply-in-spec =
+    tie.close
+    (tie.spec
+    block-count-requires
+    pack-blocks-requires
+    block-count-requires-2
+    pack-back-requires
+    gather-requires
+    same-length
+    same-length-2
+    same-length-3
+    returns
+    add-write-remainders
+    sub-write-remainders
+    write-remainders-requires
+    same-length-4
+    same-length-5
+    same-length-6
+    same-length-7
+    returns-2)

@@ -1,0 +1,109 @@
+-- What the workers of a product ask of each other. Definitions only.
+--     Packing s xs                       a list whose blocks can be packed
+--     packedBack s xs count r            word r of its blocks backwards: three words of empty blocks, then the highest of count blocks
+--     Working s a b out                  two lists and a list lent for their product: nothing is refused and there is something to write
+--     Works s a b old new                their product is written
+--     Blank ws m                         words that are zero, and at least m of them
+--     Room s a b xs ys sums              blank lists, long enough for the blocks and the sums of a and b
+--     Gathering s a b xs ys sums         the blocks of a lie in xs and those of b backwards in ys; the sums are blank
+--     Sums a b old sums                  the sums are the product's coefficients, unreduced
+--     Batching xs ys i j count           words below 2^32, and any count of their products that follow one another, from i in xs on, fit a word
+--     BatchWords xs ys i j count ..      the words of one batch in four columns: each is the sum of the products of those words
+--     AddsWord t m word at old new       the word's m lowest fields are added to the sums from place at on: told by what the sums are in every base
+--     AddsColumns s xs ys i j count at old new
+--                                        four columns of products of words are, told the same way
+--     Adding s xs ys i j count at sums
+--                                        words to be multiplied, and sums with room for four columns of them from place at on
+use Prim.Native.Nat.{ℕ, suc, _+_, _-_, _*_, _%_, _^_, _≤_, _<_}
+use mathlib.Core.Path.{_≡_}
+use mathlib.Core.List.{List}
+use lib.ListN.{length}
+use Rattle.polynomials.specs.Indices.{filled}
+use Rattle.polynomials.specs.Lists.{coefficient, productLength, productAt, Below}
+use Rattle.polynomials.specs.Places.{packed}
+use Rattle.polynomials.specs.Blocks.{blocks, blockAt, blockList, dot, spread, backwards}
+use Rattle.packed.specs.Limits.{wordBits, longestFactor}
+use Rattle.packed.specs.Settings.{base}
+use Rattle.packed.specs.Coefficients.{taken}
+use Rattle.packed.specs.Bounds.{Bounds}
+use Rattle.packed.specs.BatchLaws.{PackedWords, columnsWorth}
+use Rattle.packed.specs.declared.setting.Setting.{Setting}
+
+pub record Packing (s : Setting) (xs : List ℕ) : Type 0 where
+  pub bounded : Bounds s
+  pub below : Below (s .p) xs
+  pub size : length xs ≤ longestFactor
+
+abbrev pub packedBack : Setting → List ℕ → ℕ → ℕ → ℕ
+packedBack s xs count r = blockAt (base s) (s .k) (taken (s .p) xs) (count + 2 - r)
+
+pub record Working (s : Setting) (a b out : List ℕ) : Type 0 where
+  pub left : Packing s a
+  pub right : Packing s b
+  pub left-some : 0 < length a
+  pub right-some : 0 < length b
+  pub room : length a + length b ≤ suc (length out)
+
+abbrev pub productResidue : ℕ → List ℕ → List ℕ → ℕ → ℕ
+productResidue p a b j = productAt a b j % p
+
+abbrev pub sumResidue : ℕ → List ℕ → ℕ → ℕ
+sumResidue p sums j = coefficient sums j % p
+
+abbrev pub Works : Setting → List ℕ → List ℕ → List ℕ → List ℕ → Type 0
+Works s a b old new = new ≡ filled (length a + length b - 1) (productResidue (s .p) a b) old
+
+pub record Blank (ws : List ℕ) (m : ℕ) : Type 0 where
+  pub zeros : (i : ℕ) → coefficient ws i ≡ 0
+  pub room : m ≤ length ws
+
+pub record Room (s : Setting) (a b xs ys sums : List ℕ) : Type 0 where
+  pub left : Blank xs (blocks (s .k) (length a))
+  pub right : Blank ys (blocks (s .k) (length b) + 6)
+  pub all : Blank sums ((blocks (s .k) (length a) + blocks (s .k) (length b) + 3) * s .k)
+
+pub record Gathering (s : Setting) (a b xs ys sums : List ℕ) : Type 0 where
+  pub left : Packing s a
+  pub right : Packing s b
+  pub left-some : 0 < length a
+  pub right-some : 0 < length b
+  pub left-words : (i : ℕ) → coefficient xs i ≡ coefficient (blockList (base s) (s .k) (blocks (s .k) (length a)) a) i
+  pub right-words : (r : ℕ) → coefficient ys r ≡ backwards 3 (blockList (base s) (s .k) (blocks (s .k) (length b)) b) r
+  pub left-room : blocks (s .k) (length a) ≤ length xs
+  pub right-room : blocks (s .k) (length b) + 6 ≤ length ys
+  pub blank : Blank sums ((blocks (s .k) (length a) + blocks (s .k) (length b) + 3) * s .k)
+
+pub record Sums (a b old sums : List ℕ) : Type 0 where
+  pub size : length sums ≡ length old
+  pub coefficient-of : (j : ℕ) → coefficient sums j ≡ productAt a b j
+
+pub record Batching (xs ys : List ℕ) (i j count : ℕ) : Type 0 where
+  pub left-room : i + count ≤ length xs
+  pub right-room : j + 3 + count ≤ length ys
+  pub left-below : Below (2 ^ 32) xs
+  pub right-below : Below (2 ^ 32) ys
+  pub fits : (u : ℕ) → dot (coefficient xs) (coefficient ys) i u count < 2 ^ wordBits
+
+pub record BatchWords (xs ys : List ℕ) (i j count first second third fourth : ℕ) : Type 0 where
+  pub at-3 : first ≡ dot (coefficient xs) (coefficient ys) i (j + 3) count
+  pub at-2 : second ≡ dot (coefficient xs) (coefficient ys) i (j + 2) count
+  pub at-1 : third ≡ dot (coefficient xs) (coefficient ys) i (j + 1) count
+  pub at-0 : fourth ≡ dot (coefficient xs) (coefficient ys) i (j + 0) count
+
+pub record AddsWord (t m word at : ℕ) (old new : List ℕ) : Type 0 where
+  pub size : length new ≡ length old
+  pub in-base : (b : ℕ) → packed b new ≡ packed b old + spread (2 ^ t) m b word * b ^ at
+
+pub record AddsColumns (s : Setting) (xs ys : List ℕ) (i j count at : ℕ) (old new : List ℕ) : Type 0 where
+  pub size : length new ≡ length old
+  pub in-base : (b : ℕ) → packed b new ≡ packed b old + columnsWorth s b xs ys i j count at
+
+pub record Adding (s : Setting) (xs ys : List ℕ) (i j count at : ℕ) (sums : List ℕ) : Type 0 where
+  pub bounded : Bounds s
+  pub left : PackedWords s xs
+  pub right : PackedWords s ys
+  pub left-room : i + count ≤ length xs
+  pub right-room : j + 3 + count ≤ length ys
+  pub room : at + 5 * s .k ≤ suc (length sums)
+  pub near : at < 2 ^ 32
+  pub total : packed 1 sums + columnsWorth s 1 xs ys i j count at < 2 ^ wordBits
