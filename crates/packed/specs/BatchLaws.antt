@@ -10,7 +10,7 @@
 --     columns-one                         in the base 1 places do not count
 --     batch-fits                          a batch of at most n products is below 2^64
 --     batch-worth                         its word, taken apart into 2k-1 fields and put together in the base b, is the sum at that worth
-use Prim.Native.Nat.{ℕ, zero, suc, _+_, _-_, _*_, _^_, _≤_, _<_, min}
+use Prim.Native.Nat.{ℕ, _+_, _-_, _*_, _^_, _≤_, _<_, min}
 use mathlib.Core.Path.{_≡_, sym, ap, _∙_}
 use mathlib.Core.List.{List}
 use native.Mathlib.Nat.{le-trans, lt-of-le-of-lt, zero-mul, mul-one}
@@ -18,7 +18,6 @@ use native.Mathlib.Decide.{decLt}
 use native.Mathlib.Omega.{arith}
 use lib.ListN.{length, take, drop, length-take}
 use lib.Seq.{getD-take, getD-drop}
-use Rattle.polynomials.specs.Indices.{upto}
 use Rattle.polynomials.specs.IndexLaws.{length-upto, sum-same, sum-join}
 use Rattle.polynomials.specs.Lists.{coefficient, Below, Operand, Pair, Pairs, sumOfProducts, batchMost}
 use Rattle.polynomials.specs.ListLaws.{coefficient-past}

@@ -1,5 +1,6 @@
 -- The sums of a product, four columns at a time, on plain values. Assumes nothing.
 --     Gathered s a b old sums z   the first z columns of the product of a and b are in the sums, told by what the sums are in every base
+--     block-few                   a list has at most 4,096 blocks
 --     columns-adding              before the next four columns, which begin with block z: there is room, and no sum leaves its 64 bits
 --     gathered-more               after them, those are in the sums too
 --     gathered-none               before the first, none are
@@ -7,13 +8,12 @@
 --     blocks-lie                  blank lists that were filled with the words of the blocks are as gathering asks
 --     sums-works                  the remainders of the sums are the product's coefficients modulo p
 --     blank-room                  zeros, and how many are enough for lists of a length
-use Prim.Native.Nat.{ℕ, suc, _+_, _-_, _*_, _^_, _≤_, _<_, min}
+use Prim.Native.Nat.{ℕ, _+_, _-_, _*_, _^_, _≤_, _<_, min}
 use mathlib.Core.Path.{_≡_, refl, sym, ap, _∙_, fun-ext}
 use mathlib.Core.Bool.{Bool, true, false}
-use mathlib.Core.List.{List, [], _∷_}
+use mathlib.Core.List.{List, []}
 use native.Mathlib.Nat.{le-trans, add-zero, mul-le-mul, mul-le-mul-right}
 use native.Mathlib.Decide.{decLt}
-use native.Mathlib.Numerals.{add-one}
 use native.Mathlib.Omega.{arith}
 use lib.Dec.{ltb}
 use lib.ListN.{length, replicate, length-replicate}
@@ -23,14 +23,14 @@ use Rattle.polynomials.specs.IndexLaws.{length-upto, upto-past, sum-same}
 use Rattle.polynomials.specs.Lists.{coefficient, productAt, product, Below}
 use Rattle.polynomials.specs.ListLaws.{coefficient-zeros, filled-at, filled-after, length-filled}
 use Rattle.polynomials.specs.Places.{packed}
-use Rattle.polynomials.specs.PlaceLaws.{packed-agree, packed-four, packed-product, packed-zeros, packed-one-most, power-power, one-power}
-use Rattle.polynomials.specs.Blocks.{blocks, block, blockAt, blockList, dot, spread, backwards}
-use Rattle.polynomials.specs.BlockLaws.{blocks-enough, blocks-most, blocks-few, blocks-some, coefficient-block, block-operand, packed-blocks, coefficient-blocks, spread-block, spread-zero, column, gathered-most, gathered}
+use Rattle.polynomials.specs.PlaceLaws.{packed-agree, packed-four, packed-product, packed-zeros, packed-one-most, power-power}
+use Rattle.polynomials.specs.Blocks.{blocks, block, blockAt, blockList, spread, backwards}
+use Rattle.polynomials.specs.BlockLaws.{blocks-enough, blocks-most, blocks-few, blocks-some, block-operand, packed-blocks, coefficient-blocks, spread-block, spread-zero, column, gathered-most, gathered}
 use Rattle.packed.specs.Limits.{largestModulus, longestFactor}
 use Rattle.packed.specs.Settings.{base}
 use Rattle.packed.specs.Coefficients.{taken, taken-below}
 use Rattle.packed.specs.Bounds.{Bounds}
-use Rattle.packed.specs.BatchLaws.{PackedWord, PackedWords, worth, columnWorth, columnsWorth, packed-word}
+use Rattle.packed.specs.BatchLaws.{PackedWord, worth, columnWorth, columnsWorth, packed-word}
 use Rattle.packed.specs.Gathering.{Packing, packedBack, Working, Works, sumResidue, Blank, Room, Gathering, Sums, AddsColumns, Adding}
 use Rattle.packed.specs.declared.setting.Setting.{Setting}
 
@@ -69,6 +69,9 @@ module _ (s : Setting) (xs : List ℕ) (pre : Packing s xs) where
 
   block-word : (i : ℕ) → PackedWord s (blockAt (base s) (s .k) xs i)
   block-word i = packed-word s (block (s .k) xs i) (pre .bounded) (length-upto (s .k) (λ j. coefficient xs (i * s .k + j))) (block-operand (s .p) (s .k) xs i (pre .below) .below)
+
+  pub block-few : (m : ℕ) → m ≡ blocks (s .k) (length xs) → m ≤ longestFactor
+  block-few m e = omega (arith, pre .size, blocks-few (s .k) (length xs) some-k)
 
   -- a word of the list of blocks, and of the list backwards
   at-word : (i : ℕ) → coefficient (blocksIn s (base s) xs) i ≡ blockAt (base s) (s .k) xs i
@@ -139,8 +142,8 @@ module _ (s : Setting) (a b xs ys old : List ℕ) (pre : Gathering s a b xs ys o
     pub columns-adding : Adding s xs ys (z + 1 - n) (n - (z + 1)) count (z * s .k) sums
     columns-adding =
         let k-high = pre .left .bounded .range .choice .k-high in
-        let few-a : m ≤ length a = blocks-few (s .k) (length a) (some-k s a (pre .left)) in
-        let few-b : n ≤ length b = blocks-few (s .k) (length b) (some-k s b (pre .right)) in
+        let few-a : m ≤ longestFactor = block-few s a (pre .left) m refl in
+        let few-b : n ≤ longestFactor = block-few s b (pre .right) n refl in
         record {
           bounded = pre .left .bounded;
           left = λ i. rw (pre .left-words i, at-word s a (pre .left) i) (block-word s a (pre .left) i);
@@ -148,7 +151,7 @@ module _ (s : Setting) (a b xs ys old : List ℕ) (pre : Gathering s a b xs ys o
           left-room = omega (arith, pre .left-room);
           right-room = omega (arith, pre .right-room);
           room = omega (arith, so-far .size, pre .blank .room, mul-le-mul-right {m = z + 5} {n = m + n + 3} (s .k) (omega arith));
-          near = omega (arith, pre .left .size, pre .right .size, mul-le-mul {n₁ = z} {m₁ = s .k} {n₂ = 8192} {m₂ = 8} (omega (arith, pre .left .size, pre .right .size)) k-high);
+          near = omega (arith, mul-le-mul {n₁ = z} {m₁ = s .k} {n₂ = 8192} {m₂ = 8} (omega arith) k-high);
           total = total;
         }
 

@@ -7,9 +7,11 @@
 --     Room s a b xs ys sums              blank lists, long enough for the blocks and the sums of a and b
 --     Gathering s a b xs ys sums         the blocks of a lie in xs and those of b backwards in ys; the sums are blank
 --     Sums a b old sums                  the sums are the product's coefficients, unreduced
---     Batching xs ys i j count           words below 2^32, and any count of their products that follow one another, from i in xs on, fit a word
---     BatchWords xs ys i j count ..      the words of one batch in four columns: each is the sum of the products of those words
+--     Batching xs ys                     words below 2^32, and the sum of their products fits a word, from each of the first four places of ys on
+--     BatchWords xs ys w1 w2 w3 w4       the words of one batch in four columns: each is the sum of the products of those words
 --     AddsWord t m word at old new       the word's m lowest fields are added to the sums from place at on: told by what the sums are in every base
+--     AddingWords t k w1 w2 w3 w4 at sums, AddsWords t k w1 w2 w3 w4 at old new
+--                                        four words, each k places above the one before: room for their fields, and that they are added
 --     AddsColumns s xs ys i j count at old new
 --                                        four columns of products of words are, told the same way
 --     Adding s xs ys i j count at sums
@@ -19,10 +21,10 @@ use mathlib.Core.Path.{_≡_}
 use mathlib.Core.List.{List}
 use lib.ListN.{length}
 use Rattle.polynomials.specs.Indices.{filled}
-use Rattle.polynomials.specs.Lists.{coefficient, productLength, productAt, Below}
+use Rattle.polynomials.specs.Lists.{coefficient, productAt, Below}
 use Rattle.polynomials.specs.Places.{packed}
 use Rattle.polynomials.specs.Blocks.{blocks, blockAt, blockList, dot, spread, backwards}
-use Rattle.packed.specs.Limits.{wordBits, longestFactor}
+use Rattle.packed.specs.Limits.{mostCoefficients, wordBits, longestFactor}
 use Rattle.packed.specs.Settings.{base}
 use Rattle.packed.specs.Coefficients.{taken}
 use Rattle.packed.specs.Bounds.{Bounds}
@@ -77,22 +79,34 @@ pub record Sums (a b old sums : List ℕ) : Type 0 where
   pub size : length sums ≡ length old
   pub coefficient-of : (j : ℕ) → coefficient sums j ≡ productAt a b j
 
-pub record Batching (xs ys : List ℕ) (i j count : ℕ) : Type 0 where
-  pub left-room : i + count ≤ length xs
-  pub right-room : j + 3 + count ≤ length ys
+pub record Batching (xs ys : List ℕ) : Type 0 where
+  pub room : length xs + 3 ≤ length ys
   pub left-below : Below (2 ^ 32) xs
   pub right-below : Below (2 ^ 32) ys
-  pub fits : (u : ℕ) → dot (coefficient xs) (coefficient ys) i u count < 2 ^ wordBits
+  pub fits : (u : ℕ) → u ≤ 3 → dot (coefficient xs) (coefficient ys) 0 u (length xs) < 2 ^ wordBits
 
-pub record BatchWords (xs ys : List ℕ) (i j count first second third fourth : ℕ) : Type 0 where
-  pub at-3 : first ≡ dot (coefficient xs) (coefficient ys) i (j + 3) count
-  pub at-2 : second ≡ dot (coefficient xs) (coefficient ys) i (j + 2) count
-  pub at-1 : third ≡ dot (coefficient xs) (coefficient ys) i (j + 1) count
-  pub at-0 : fourth ≡ dot (coefficient xs) (coefficient ys) i (j + 0) count
+pub record BatchWords (xs ys : List ℕ) (first second third fourth : ℕ) : Type 0 where
+  pub at-3 : first ≡ dot (coefficient xs) (coefficient ys) 0 3 (length xs)
+  pub at-2 : second ≡ dot (coefficient xs) (coefficient ys) 0 2 (length xs)
+  pub at-1 : third ≡ dot (coefficient xs) (coefficient ys) 0 1 (length xs)
+  pub at-0 : fourth ≡ dot (coefficient xs) (coefficient ys) 0 0 (length xs)
 
 pub record AddsWord (t m word at : ℕ) (old new : List ℕ) : Type 0 where
   pub size : length new ≡ length old
   pub in-base : (b : ℕ) → packed b new ≡ packed b old + spread (2 ^ t) m b word * b ^ at
+
+pub record AddingWords (t k w1 w2 w3 w4 at : ℕ) (sums : List ℕ) : Type 0 where
+  pub width : t < wordBits
+  pub k-low : 1 ≤ k
+  pub k-high : k ≤ mostCoefficients
+  pub near : at < 2 ^ 32
+  pub room : at + 5 * k ≤ suc (length sums)
+  pub total : packed 1 sums + (spread (2 ^ t) (2 * k - 1) 1 w1 + spread (2 ^ t) (2 * k - 1) 1 w2 + spread (2 ^ t) (2 * k - 1) 1 w3 + spread (2 ^ t) (2 * k - 1) 1 w4) < 2 ^ wordBits
+
+pub record AddsWords (t k w1 w2 w3 w4 at : ℕ) (old new : List ℕ) : Type 0 where
+  pub size : length new ≡ length old
+  pub in-base : (b : ℕ) → packed b new
+      ≡ packed b old + (spread (2 ^ t) (2 * k - 1) b w1 * b ^ at + spread (2 ^ t) (2 * k - 1) b w2 * b ^ (at + k) + spread (2 ^ t) (2 * k - 1) b w3 * b ^ (at + 2 * k) + spread (2 ^ t) (2 * k - 1) b w4 * b ^ (at + 3 * k))
 
 pub record AddsColumns (s : Setting) (xs ys : List ℕ) (i j count at : ℕ) (old new : List ℕ) : Type 0 where
   pub size : length new ≡ length old

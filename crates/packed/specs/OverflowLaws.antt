@@ -10,9 +10,8 @@ use mathlib.Core.List.{List}
 use native.Mathlib.Nat.{mul-le-mul-left}
 use native.Mathlib.Omega.{arith}
 use lib.ListN.{length, replicate, length-replicate}
-use lib.Pow.{pow-pos}
 use borrow.Author.Tests.{le-ltb, lt-leb}
-use Rattle.polynomials.specs.Indices.{first, upto}
+use Rattle.polynomials.specs.Indices.{first}
 use Rattle.polynomials.specs.IndexLaws.{length-upto, upto-at, first-none}
 use Rattle.polynomials.specs.Lists.{coefficient, scaled, productLength, product, Below, Operand}
 use Rattle.polynomials.specs.ListLaws.{coefficient-scaled}
@@ -23,7 +22,7 @@ use Rattle.polynomials.specs.Blocks.{blocks, block, blockAt, pairsUpto, dot}
 use Rattle.polynomials.specs.BlockLaws.{block-operand, length-pairs, pairs-operands, words-of-pairs}
 use Rattle.packed.specs.Limits.{wordBits}
 use Rattle.packed.specs.Settings.{base}
-use Rattle.packed.specs.Coefficients.{tooLarge, firstBad, taken, taken-below}
+use Rattle.packed.specs.Coefficients.{tooLarge, firstBad, taken-below}
 use Rattle.packed.specs.Bounds.{Bounds, batch-sum}
 use Rattle.packed.specs.Overflow.{batchSums, blockCause, overflowCause}
 use Rattle.packed.specs.declared.setting.Setting.{Setting}

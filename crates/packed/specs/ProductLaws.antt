@@ -7,9 +7,8 @@
 --     product-written       a list filled with the sums modulo p is what product promises
 --     product-checks-same   accepted settings with one p refuse the same lists, with the same number and place
 --     same-product          so two accepted settings with one p give one answer and one list
-use Prim.Native.Nat.{ℕ, zero, suc, _+_, _-_, _%_, _≤_, _<_}
+use Prim.Native.Nat.{ℕ, zero, suc, _+_, _-_, _≤_, _<_}
 use mathlib.Core.Path.{_≡_, refl, sym, ap, _∙_, fun-ext}
-use mathlib.Core.Bool.{Bool, false, _||_}
 use mathlib.Mathlib.Data.Bool.Basic.{or-eq-false-eq-eq-false-and-eq-false}
 use mathlib.Core.List.{List}
 use native.Mathlib.Omega.{arith}
@@ -17,19 +16,18 @@ use lib.Dec.{ltb}
 use lib.ListN.{length}
 use borrow.Author.Tests.{ltb-false}
 use Rattle.polynomials.specs.Indices.{filled}
-use Rattle.polynomials.specs.Lists.{coefficient, productLength, productAt, product, residues, Below}
+use Rattle.polynomials.specs.Lists.{coefficient, productLength, product, residues, Below}
 use Rattle.polynomials.specs.ListLaws.{length-residues, length-product, coefficient-residues, coefficient-product}
 use Rattle.packed.specs.Limits.{longestFactor}
-use Rattle.packed.specs.Answers.{Verdict, answered, fine, refused, refuse, _andThen_}
+use Rattle.packed.specs.Answers.{Verdict, answered, fine, refused}
 use Rattle.packed.specs.AnswerLaws.{passed, passed-first, passed-last}
-use Rattle.packed.specs.SharedAnswers.{shortCause, Writes, writes-once, writes-list}
+use Rattle.packed.specs.SharedAnswers.{shortCause, writes-once, writes-list}
 use Rattle.packed.specs.Settings.{settingChecks}
 use Rattle.packed.specs.Coefficients.{coefficientsCheck, coefficients-check}
 use Rattle.packed.specs.Bounds.{Bounds, bounds}
-use Rattle.packed.specs.Overflow.{overflowCause}
 use Rattle.packed.specs.OverflowLaws.{never-overflows}
 use Rattle.packed.specs.Products.{factorsCause, factorChecks, productChecks, Multiplies}
-use Rattle.packed.specs.Gathering.{Working, Works, productResidue}
+use Rattle.packed.specs.Gathering.{productResidue}
 use Rattle.packed.specs.declared.setting.Setting.{Setting}
 use Rattle.packed.specs.declared.answers.Wrote.{Wrote}
 use Rattle.packed.specs.declared.answers.Wrote.the-variants.{Count}

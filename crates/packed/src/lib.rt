@@ -1,6 +1,7 @@
 // Polynomials with coefficients modulo p, packed into one 64-bit word, a coefficient to every t bits.
 pub mod answers;
 mod blocks;
+mod columns;
 mod entries;
 mod limits;
 mod overflow;

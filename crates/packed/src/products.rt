@@ -1,7 +1,7 @@
 // The product of two lists.
 ghost use mathlib.Core.Path.{_≡_};
 ghost use mathlib.Core.Bool.{true};
-ghost use Prim.Native.Nat.{_+_, _≤_};
+ghost use Prim.Native.Nat.{_≤_};
 ghost use lib.ListN.{length};
 ghost use Rattle.polynomials.specs.Lists.{productLength};
 ghost use Rattle.packed.specs.Limits.{longestFactor};
@@ -10,10 +10,10 @@ ghost use Rattle.packed.specs.Products.{factorChecks, Multiplies};
 ghost use Rattle.packed.specs.Gathering.{Working, Works, Room};
 use crate::answers::Wrote;
 use crate::blocks::block_count;
-use crate::blocks::gather;
 use crate::blocks::pack_back;
 use crate::blocks::pack_blocks;
-use crate::blocks::write_remainders;
+use crate::columns::gather;
+use crate::columns::write_remainders;
 use crate::limits::LONGEST_FACTOR;
 use crate::refusals;
 use crate::setting::Checked;
@@ -81,22 +81,26 @@ fn multiply(s: Setting, a: &[u16], b: &[u16], out: &mut [u16]) -> bool
     requires { ⌜ Working s (now a) (now b) (now out) ⌝ }
     ensures { λ r. ⌜ (r ≡ true) × Works s (now (a .entry)) (now (b .entry)) (now (out .entry)) (now (out .exit)) ⌝ }
 {
-    if a.len() + b.len() <= 256 {
-        return multiply_short(s, a, b, out);
+    if a.len() <= 256 {
+        if b.len() <= 256 {
+            return multiply_short(s, a, b, out);
+        }
     }
     multiply_long(s, a, b, out)
 }
 
+// A word for a block of one coefficient or more, six zeros around those of the second list, and sums for five blocks past the product.
 fn multiply_short(s: Setting, a: &[u16], b: &[u16], out: &mut [u16]) -> bool
-    requires { ⌜ Working s (now a) (now b) (now out) × (length (now a) + length (now b) ≤ 256) ⌝ }
+    requires { ⌜ Working s (now a) (now b) (now out) × (length (now a) ≤ 256) × (length (now b) ≤ 256) ⌝ }
     ensures { λ r. ⌜ (r ≡ true) × Works s (now (a .entry)) (now (b .entry)) (now (out .entry)) (now (out .exit)) ⌝ }
 {
     let mut xs = [0u64; 256];
     let mut ys = [0u64; 264];
-    let mut sums = [0u64; 320];
+    let mut sums = [0u64; 576];
     multiply_in(s, a, b, &mut xs, &mut ys, &mut sums, out)
 }
 
+// The same for the longest lists.
 fn multiply_long(s: Setting, a: &[u16], b: &[u16], out: &mut [u16]) -> bool
     requires { ⌜ Working s (now a) (now b) (now out) ⌝ }
     ensures { λ r. ⌜ (r ≡ true) × Works s (now (a .entry)) (now (b .entry)) (now (out .entry)) (now (out .exit)) ⌝ }

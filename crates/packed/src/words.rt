@@ -1,7 +1,7 @@
 // The loops and the arithmetic under the public calls. Nothing is refused here: each function states what it assumes, of the numbers it
 // is given and not of the rule that accepted them.
 ghost use mathlib.Core.Path.{_≡_};
-ghost use Prim.Native.Nat.{_+_, _-_, _*_, _^_, _<_, _≤_};
+ghost use Prim.Native.Nat.{_+_, _-_, _*_, _^_, _<_, _≤_, min};
 ghost use lib.ListN.{length};
 ghost use Rattle.polynomials.specs.Indices.{upto, filled};
 ghost use Rattle.polynomials.specs.Places.{packed, field, shifted, reduced};
@@ -152,4 +152,10 @@ fn wide(x: u16) -> u64
     ensures { λ r. ⌜ r ≡ x ⌝ }
 {
     x as u64
+}
+
+pub fn least(x: usize, y: usize) -> usize
+    ensures { λ r. ⌜ r ≡ min x y ⌝ }
+{
+    if x < y { x } else { y }
 }

@@ -13,16 +13,15 @@
 --     column                           coefficient z + c of a product as a dot of the first factor with the second backwards
 --     gathered-most                    a product's first coefficients are no more than the product
 --     gathered                         a list that is, in every base, the product of two lists' blocks, is the product of the lists
-use Prim.Native.Nat.{ℕ, zero, suc, _+_, _-_, _*_, _/_, _%_, _^_, _≤_, _<_, min, zero-le}
+use Prim.Native.Nat.{ℕ, zero, suc, _+_, _-_, _*_, _^_, _≤_, _<_, min, zero-le}
 use mathlib.Core.Path.{_≡_, refl, sym, ap, _∙_}
-use mathlib.Core.Bool.{true, false}
 use mathlib.Core.List.{List, [], _∷_}
-use native.Mathlib.Nat.{zero-add, add-zero, add-assoc, zero-mul, mul-zero, mul-one, suc-mul, pow-zero, pow-succ', le-mul-of-pos-right, mul-le-mul-right, le-div-iff-mul-le, zero-div, zero-mod, div-add-mod', mod-lt}
+use native.Mathlib.Nat.{zero-add, add-zero, zero-mul, mul-zero, mul-one, suc-mul, pow-zero, pow-succ', le-mul-of-pos-right, mul-le-mul-right, le-div-iff-mul-le, zero-div, zero-mod, div-add-mod', mod-lt}
 use native.Mathlib.Decide.{decLt}
 use native.Mathlib.Numerals.{add-one}
 use native.Mathlib.Omega.{arith}
 use lib.Dec.{ltb}
-use lib.ListN.{length, set}
+use lib.ListN.{length}
 use lib.Pow.{pow-add}
 use borrow.Author.Tests.{lt-ltb, le-ltb}
 use Rattle.polynomials.specs.Indices.{pick, sumTo, upto}

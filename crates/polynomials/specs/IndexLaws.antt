@@ -8,7 +8,7 @@
 --     first-none                                    it is through exactly where the test holds at none of the numbers from 0
 --     first-found, first-passed, first-ended        a searching loop's turn at i: it stops, it goes on, it is through
 use Prim.Native.Nat.{ℕ, zero, suc, _+_, _-_, _*_, _≤_, _<_, min, zero-le}
-use mathlib.Core.Path.{_≡_, refl, sym, ap, _∙_}
+use mathlib.Core.Path.{_≡_, refl, sym, _∙_}
 use mathlib.Core.Bool.{Bool, true, false, true≢false}
 use mathlib.Core.Logic.{_↔_, ⊎-elim}
 use mathlib.Core.List.{List, [], _∷_}

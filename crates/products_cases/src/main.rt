@@ -19,9 +19,9 @@ fn main() {
     moduli_small();
     moduli_large();
     moduli_composite();
-    sums_of_lengths(929, 1, 26, 77);
-    sums_of_lengths(3, 4, 9, 31);
-    sums_of_lengths(2, 8, 4, 1);
+    around_256(929, 1, 26, 77);
+    around_256(3, 4, 9, 31);
+    around_256(2, 8, 4, 1);
     unequal(65536, 1, 40, 256);
     unequal(127, 2, 21, 66);
     short();
@@ -192,32 +192,20 @@ fn show_both(p: u64, k: u64, t: u64, n: u64) {
     show_made(p, k, t, n, &mut [0; 61], &mut [0; 47], &mut [7; 107]);
 }
 
-// Lengths whose sum is around 256, where short lists may be worked in other room than long ones; the same with one coefficient on a side;
-// and around 512.
-fn sums_of_lengths(p: u64, k: u64, t: u64, n: u64) {
-    sums_around_256(p, k, t, n);
-    sums_with_one(p, k, t, n);
-    sums_around_512(p, k, t, n);
-}
-
-fn sums_around_256(p: u64, k: u64, t: u64, n: u64) {
-    show_made(p, k, t, n, &mut [0; 128], &mut [0; 127], &mut [7; 254]);
-    show_made(p, k, t, n, &mut [0; 128], &mut [0; 128], &mut [7; 255]);
-    show_made(p, k, t, n, &mut [0; 128], &mut [0; 129], &mut [7; 256]);
-    show_made(p, k, t, n, &mut [0; 129], &mut [0; 129], &mut [7; 257]);
-}
-
-fn sums_with_one(p: u64, k: u64, t: u64, n: u64) {
-    show_made(p, k, t, n, &mut [0; 255], &mut [0; 1], &mut [7; 255]);
-    show_made(p, k, t, n, &mut [0; 256], &mut [0; 1], &mut [7; 256]);
-    show_made(p, k, t, n, &mut [0; 1], &mut [0; 255], &mut [7; 255]);
-    show_made(p, k, t, n, &mut [0; 1], &mut [0; 256], &mut [7; 256]);
-}
-
-fn sums_around_512(p: u64, k: u64, t: u64, n: u64) {
-    show_made(p, k, t, n, &mut [0; 256], &mut [0; 255], &mut [7; 510]);
+// 256 coefficients and one more, on either side: short lists are worked in other room than long ones.
+fn around_256(p: u64, k: u64, t: u64, n: u64) {
+    show_made(p, k, t, n, &mut [0; 255], &mut [0; 256], &mut [7; 510]);
     show_made(p, k, t, n, &mut [0; 256], &mut [0; 256], &mut [7; 511]);
     show_made(p, k, t, n, &mut [0; 256], &mut [0; 257], &mut [7; 512]);
+    show_made(p, k, t, n, &mut [0; 257], &mut [0; 256], &mut [7; 512]);
+    around_256_by_one(p, k, t, n);
+}
+
+fn around_256_by_one(p: u64, k: u64, t: u64, n: u64) {
+    show_made(p, k, t, n, &mut [0; 256], &mut [0; 1], &mut [7; 256]);
+    show_made(p, k, t, n, &mut [0; 257], &mut [0; 1], &mut [7; 257]);
+    show_made(p, k, t, n, &mut [0; 1], &mut [0; 256], &mut [7; 256]);
+    show_made(p, k, t, n, &mut [0; 1], &mut [0; 257], &mut [7; 257]);
 }
 
 // A short list by a long one, and the other way round.

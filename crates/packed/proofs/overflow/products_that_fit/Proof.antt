@@ -1,5 +1,5 @@
 -- `products_that_fit` meets its contract. Assumes nothing.
-use Prim.Native.Nat.{ℕ, _*_, _/_, _^_, _≤_, _<_}
+use Prim.Native.Nat.{ℕ, _*_, _^_, _<_}
 use mathlib.Core.Path.{_≡_}
 use native.Mathlib.Nat.{le-div-iff-mul-le, le-mul-of-pos-right, mul-pos, mul-comm}
 use native.Mathlib.Omega.{arith}

@@ -1,26 +1,13 @@
 -- `multiply_in` meets its contract. Assumes nothing.
-use Prim.Native.Nat.{ℕ, _+_, _-_, _≤_}
-use mathlib.Core.Path.{_≡_, refl, sym}
-use mathlib.Core.Bool.{Bool, true, not, true≢false}
-use mathlib.Core.List.{List}
+use mathlib.Core.Path.{refl, sym, _∙_}
+use mathlib.Core.Bool.{true, true≢false}
 use native.Mathlib.Omega.{arith}
-use lib.ListN.{length}
 use denote.Ref.{now}
 use borrow.Author.Needs.{needs}
-use Rattle.polynomials.specs.Blocks.{blocks}
-use Rattle.polynomials.specs.BlockLaws.{blocks-few}
-use Rattle.packed.specs.Limits.{longestFactor}
-use Rattle.packed.specs.Gathering.{Packing}
-use Rattle.packed.specs.GatherLaws.{blocks-lie, sums-enough, sums-works}
-use Rattle.packed.specs.declared.setting.Setting.{Setting}
+use borrow.Author.Tests.{not-true}
+use Rattle.packed.specs.GatherLaws.{block-few, blocks-lie, sums-enough, sums-works}
 use Rattle.packed.proofs.products.multiply_in.Statement.{statement}
 use Rattle.packed.proofs.products.multiply_in.Tie as tie
-
-few : (s : Setting) (xs : List ℕ) → Packing s xs → (m : ℕ) → m ≡ blocks (s .k) (length xs) → m ≤ longestFactor
-few s xs h m e = omega (arith, h .size, blocks-few (s .k) (length xs) (h .bounded .range .choice .k-low))
-
-never : (r : Bool) → r ≡ true → not r ≡ true → ⊥
-never r e h = true≢false (sym (rw e at h))
 
 block-count-requires : tie.Need-block-count-requires
 block-count-requires c κs = search needs
@@ -30,7 +17,7 @@ pack-blocks-requires c κs =
     let a = c .before .before .before .before .before .before .before .before .args in
     let pre = c .before .before .before .before .before .before .before .before .pre in
     let m = c .before .block-count in
-    (pre .0 .left, few (a .s) (now (a .a)) (pre .0 .left) (m .result) (m .ensures), omega (arith, m .ensures, pre .1 .left .room))
+    (pre .0 .left, block-few (a .s) (now (a .a)) (pre .0 .left) (m .result) (m .ensures), omega (arith, m .ensures, pre .1 .left .room))
 
 block-count-requires-2 : tie.Need-block-count-requires-2
 block-count-requires-2 c κs = search needs
@@ -40,7 +27,7 @@ pack-back-requires c κs =
     let a = c .before .before .before .before .before .before .before .before .before .before .before .before .before .args in
     let pre = c .before .before .before .before .before .before .before .before .before .before .before .before .before .pre in
     let n = c .before .block-count2 in
-    (pre .0 .right, few (a .s) (now (a .b)) (pre .0 .right) (n .result) (n .ensures), omega (arith, n .ensures, pre .1 .right .room))
+    (pre .0 .right, block-few (a .s) (now (a .b)) (pre .0 .right) (n .result) (n .ensures), omega (arith, n .ensures, pre .1 .right .room))
 
 gather-requires : tie.Need-gather-requires
 gather-requires c κs = let a = c .before .before .before .before .before .before .before .before .before .before .before .before .before .before .before .before .before .before .before .args in blocks-lie (a .s) (now (a .a)) (now (a .b)) (now (a .out)) (now (a .xs)) (now (a .ys)) (now (a .sums)) (c .before .before .before .before .before .before .before .before .before .before .before .before .before .before .before .before .before .before .before .pre .0) (c .before .before .before .before .before .before .before .before .before .before .before .before .before .before .before .before .before .before .before .pre .1) (c .before .before .before .before .before .before .before .before .before .before .before .before .block-count .result) (c .before .before .before .before .before .before .before .block-count2 .result) (c .before .before .before .before .before .before .before .before .before .before .before .before .block-count .ensures) (c .before .before .before .before .before .before .before .block-count2 .ensures) (c .before .before .before .before .before .before .before .before .before .before .pack-blocks .ensures) (c .before .before .before .before .before .pack-back .ensures)
@@ -55,7 +42,7 @@ same-length-3 : tie.Need-same-length-3
 same-length-3 c = search needs
 
 returns : tie.Need-returns
-returns c = absurd (never (c .before .before .before .gather .result) (c .before .before .before .gather .ensures .0) (c .if1 .taken))
+returns c = absurd (true≢false (sym (c .before .before .before .gather .ensures .0) ∙ not-true (c .before .before .before .gather .result) (c .if1 .taken)))
 
 add-write-remainders : tie.Need-add-write-remainders
 add-write-remainders c = search needs

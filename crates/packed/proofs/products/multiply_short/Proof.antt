@@ -16,7 +16,7 @@ slice-aggregate-multiply-in-3 : tie.Need-slice-aggregate-multiply-in-3
 slice-aggregate-multiply-in-3 c = search needs
 
 multiply-in-requires : tie.Need-multiply-in-requires
-multiply-in-requires c κs = let a = c .before .before .before .before .before .before .before .args in (c .before .before .before .before .before .before .before .pre .0, blank-room (a .s) (now (a .a)) (now (a .b)) (now (a .out)) (c .before .before .before .before .before .before .before .pre .0) 256 264 320 (omega (arith, c .before .before .before .before .before .before .before .pre .1)) (omega (arith, c .before .before .before .before .before .before .before .pre .1)) (omega (arith, c .before .before .before .before .before .before .before .pre .1)))
+multiply-in-requires c κs = let a = c .before .before .before .before .before .before .before .args in (c .before .before .before .before .before .before .before .pre .0, blank-room (a .s) (now (a .a)) (now (a .b)) (now (a .out)) (c .before .before .before .before .before .before .before .pre .0) 256 264 576 (c .before .before .before .before .before .before .before .pre .1) (omega (arith, c .before .before .before .before .before .before .before .pre .2)) (omega (arith, c .before .before .before .before .before .before .before .pre .1, c .before .before .before .before .before .before .before .pre .2)))
 
 same-length : tie.Need-same-length
 same-length c = search needs

@@ -1,27 +1,25 @@
 -- `product` meets its promise. Assumes nothing.
 use Prim.Native.Nat.{ℕ, _+_, _-_, _<_}
 use mathlib.Core.Path.{_≡_, refl, sym, ap, _∙_}
-use mathlib.Core.Bool.{Bool, true, not, true≢false}
+use mathlib.Core.Bool.{true, true≢false}
 use mathlib.Core.List.{List}
 use native.Mathlib.Omega.{arith}
 use lib.ListN.{length}
 use denote.Ref.{now}
 use borrow.Author.Needs.{needs}
+use borrow.Author.Tests.{not-true}
 use Rattle.polynomials.specs.Lists.{productLength}
 use Rattle.packed.specs.Answers.{fine}
 use Rattle.packed.specs.SharedAnswers.{writes-nothing}
 use Rattle.packed.specs.Settings.{checkedSays}
 use Rattle.packed.specs.Products.{factorChecks, productChecks}
 use Rattle.packed.specs.ProductLaws.{Factors, factors-checked, product-refused, product-some, product-written}
-use Rattle.packed.specs.Gathering.{Working, Works}
+use Rattle.packed.specs.Gathering.{Working}
 use Rattle.packed.specs.declared.setting.Setting.{Setting}
 use Rattle.packed.proofs.products.product.Statement.{statement}
 use Rattle.packed.proofs.products.product.Tie as tie
 
 -- ---- on plain values
-
-never : (r : Bool) → r ≡ true → not r ≡ true → ⊥
-never r e h = true≢false (sym (rw e at h))
 
 module _ (s : Setting) (a b out : List ℕ) (m : ℕ) (f : Factors s a b (length out)) (size : m ≡ productLength (length a) (length b)) (some : m ≡ 0 → ⊥) where
   both : (0 < length a) × (0 < length b) × (productLength (length a) (length b) ≡ length a + length b - 1)
@@ -75,7 +73,7 @@ same-length : tie.Need-same-length
 same-length c = search needs
 
 returns-3 : tie.Need-returns-3
-returns-3 c = absurd (never (c .before .before .before .multiply .result) (c .before .before .before .multiply .ensures .0) (c .if2 .taken))
+returns-3 c = absurd (true≢false (sym (c .before .before .before .multiply .ensures .0) ∙ not-true (c .before .before .before .multiply .result) (c .if2 .taken)))
 
 same-length-2 : tie.Need-same-length-2
 same-length-2 c = search needs

@@ -1,7 +1,6 @@
 -- `product_length` meets its contract. Assumes nothing.
 use Prim.Native.Nat.{ℕ, zero, suc, _+_, _-_}
 use mathlib.Core.Path.{_≡_, refl, sym}
-use native.Mathlib.Omega.{arith}
 use borrow.Author.Needs.{needs}
 use Rattle.polynomials.specs.Lists.{productLength}
 use Rattle.packed.proofs.products.product_length.Statement.{statement}

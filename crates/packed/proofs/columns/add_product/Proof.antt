@@ -1,12 +1,10 @@
 -- `add_product` meets its contract. Assumes nothing.
-use Prim.Native.Nat.{ℕ, _+_, _*_, _%_, _^_, _<_}
+use Prim.Native.Nat.{ℕ, _*_, _%_, _^_, _<_}
 use mathlib.Core.Path.{_≡_}
 use native.Mathlib.Nat.{mod-eq-of-lt}
 use native.Mathlib.Omega.{arith}
-use mir.Val.{Fits}
-use mir.Syntax.{w64}
-use Rattle.packed.proofs.blocks.add_product.Statement.{statement}
-use Rattle.packed.proofs.blocks.add_product.Tie as tie
+use Rattle.packed.proofs.columns.add_product.Statement.{statement}
+use Rattle.packed.proofs.columns.add_product.Tie as tie
 
 -- the words themselves
 same : (x y : ℕ) → x < 2 ^ 32 → y < 2 ^ 32 → x % 4294967296 * (y % 4294967296) ≡ x * y

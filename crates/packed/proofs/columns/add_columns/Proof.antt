@@ -1,13 +1,11 @@
 -- `add_columns` meets its contract: after some batches the columns' worth of the products done so far is added. A batch has at most n
 -- products, and that many fit. Assumes nothing.
-use Prim.Native.Nat.{ℕ, _+_, _-_, _*_, _^_, _≤_, _<_, min}
+use Prim.Native.Nat.{ℕ, _+_, _-_, _≤_, min}
 use mathlib.Core.Path.{_≡_, refl, sym, _∙_}
 use mathlib.Core.Bool.{Bool, true}
 use mathlib.Core.List.{List}
-use native.Mathlib.Nat.{lt-of-le-of-lt}
 use native.Mathlib.Omega.{arith}
 use lib.Dec.{ltb}
-use lib.ListN.{length}
 use denote.Ref.{now}
 use borrow.Author.Needs.{needs}
 use borrow.Author.Tests.{ltb-true}
@@ -15,8 +13,8 @@ use Rattle.polynomials.specs.Places.{packed}
 use Rattle.packed.specs.BatchLaws.{columnsWorth, columns-none, columns-join, columns-fewer}
 use Rattle.packed.specs.Gathering.{AddsColumns, Adding}
 use Rattle.packed.specs.declared.setting.Setting.{Setting}
-use Rattle.packed.proofs.blocks.add_columns.Statement.{statement}
-use Rattle.packed.proofs.blocks.add_columns.Tie as tie
+use Rattle.packed.proofs.columns.add_columns.Statement.{statement}
+use Rattle.packed.proofs.columns.add_columns.Tie as tie
 
 abbrev Inv-loop : tie.InvT-loop
 Inv-loop s fit xs ys i j count at sums₀ most done₀ sums done = (done ≤ count) × AddsColumns s xs ys i j done at sums₀ sums

@@ -1,20 +1,20 @@
 -- `gather` meets its contract: after some turns the first z columns are in the sums. Assumes nothing.
 use Prim.Native.Nat.{ℕ, _+_, _-_, _*_, _≤_, _<_, min}
 use mathlib.Core.Path.{_≡_, refl, sym, _∙_}
-use mathlib.Core.Bool.{Bool, true, false, not, true≢false}
+use mathlib.Core.Bool.{true, false, true≢false}
 use mathlib.Core.List.{List}
 use native.Mathlib.Omega.{arith}
 use lib.ListN.{length}
 use denote.Ref.{now}
 use borrow.Author.Needs.{needs}
+use borrow.Author.Tests.{not-true}
 use Rattle.polynomials.specs.Blocks.{blocks}
-use Rattle.polynomials.specs.BlockLaws.{blocks-few}
 use Rattle.packed.specs.Limits.{longestFactor}
-use Rattle.packed.specs.Gathering.{Packing, Gathering, AddsColumns, Adding}
-use Rattle.packed.specs.GatherLaws.{Gathered, gathered-none, columns-adding, gathered-more, gathered-all}
+use Rattle.packed.specs.Gathering.{Gathering, AddsColumns, Adding}
+use Rattle.packed.specs.GatherLaws.{block-few, Gathered, gathered-none, columns-adding, gathered-more, gathered-all}
 use Rattle.packed.specs.declared.setting.Setting.{Setting}
-use Rattle.packed.proofs.blocks.gather.Statement.{statement}
-use Rattle.packed.proofs.blocks.gather.Tie as tie
+use Rattle.packed.proofs.columns.gather.Statement.{statement}
+use Rattle.packed.proofs.columns.gather.Tie as tie
 
 record Turn (s : Setting) (a b old : List ℕ) (m n : ℕ) (sums : List ℕ) (z : ℕ) : Type 0 where
   m-few : m ≤ longestFactor
@@ -29,12 +29,6 @@ abbrev μ-loop : tie.MeasureT-loop
 μ-loop s a b xs ys sums₀ m n k fit z₀ sums z = m + n - z
 
 -- ---- on plain values
-
-few : (s : Setting) (xs : List ℕ) → Packing s xs → (m : ℕ) → m ≡ blocks (s .k) (length xs) → m ≤ longestFactor
-few s xs h m e = omega (arith, h .size, blocks-few (s .k) (length xs) (h .bounded .range .choice .k-low))
-
-never : (r : Bool) → r ≡ true → not r ≡ true → ⊥
-never r e h = true≢false (sym (rw e at h))
 
 -- the numbers that a turn works out are those of the law
 module _ (s : Setting) (a b xs ys old : List ℕ) (pre : Gathering s a b xs ys old) (sums : List ℕ) (z m n start from top : ℕ)
@@ -65,8 +59,8 @@ loop-holds c =
     let a = c .before .before .before .before .before .before .before .before .args in
     let pre = c .before .before .before .before .before .before .before .before .pre in
     record {
-      m-few = few (a .s) (now (a .a)) (pre .left) (c .before .before .block-count .result) (c .before .before .block-count .ensures);
-      n-few = few (a .s) (now (a .b)) (pre .right) (c .before .block-count2 .result) (c .before .block-count2 .ensures);
+      m-few = block-few (a .s) (now (a .a)) (pre .left) (c .before .before .block-count .result) (c .before .before .block-count .ensures);
+      n-few = block-few (a .s) (now (a .b)) (pre .right) (c .before .block-count2 .result) (c .before .block-count2 .ensures);
       near = omega arith;
       so-far = gathered-none (a .s) (now (a .a)) (now (a .b)) (now (a .xs)) (now (a .ys)) (now (a .sums)) pre;
     }
@@ -116,7 +110,7 @@ same-length : tie.Need-same-length Inv-loop μ-loop
 same-length c = c .before .before .before .add-columns .ensures .1 .size ∙ c .before .before .before .before .before .before .before .before .before .loop .inv .so-far .size
 
 returns : tie.Need-returns Inv-loop μ-loop
-returns c = absurd (never (c .before .before .before .add-columns .result) (c .before .before .before .add-columns .ensures .0) (c .if1 .taken))
+returns c = absurd (true≢false (sym (c .before .before .before .add-columns .ensures .0) ∙ not-true (c .before .before .before .add-columns .result) (c .if1 .taken)))
 
 add-z : tie.Need-add-z Inv-loop μ-loop
 add-z c = omega (arith, c .before .before .before .before .before .before .before .before .before .loop .inv .near, c .before .before .before .before .before .before .before .before .before .loop .inv .m-few, c .before .before .before .before .before .before .before .before .before .loop .inv .n-few)

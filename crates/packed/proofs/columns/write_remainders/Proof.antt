@@ -1,5 +1,5 @@
 -- `write_remainders` meets its contract: after j turns the first j remainders stand. Assumes nothing.
-use Prim.Native.Nat.{_-_, _%_, _≤_}
+use Prim.Native.Nat.{_-_, _≤_}
 use mathlib.Core.Path.{_≡_, refl}
 use native.Mathlib.Nat.{mod-lt}
 use native.Mathlib.Omega.{arith}
@@ -9,8 +9,8 @@ use borrow.Author.Needs.{needs}
 use Rattle.polynomials.specs.Indices.{filled}
 use Rattle.polynomials.specs.IndexLaws.{filled-more}
 use Rattle.packed.specs.Gathering.{sumResidue}
-use Rattle.packed.proofs.blocks.write_remainders.Statement.{statement}
-use Rattle.packed.proofs.blocks.write_remainders.Tie as tie
+use Rattle.packed.proofs.columns.write_remainders.Statement.{statement}
+use Rattle.packed.proofs.columns.write_remainders.Tie as tie
 
 abbrev Inv-loop : tie.InvT-loop
 Inv-loop p m sums out₀ j₀ out j = (j ≤ m) × (out ≡ filled j (sumResidue p sums) out₀) × (length out ≡ length out₀)

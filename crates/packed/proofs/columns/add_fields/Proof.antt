@@ -3,22 +3,21 @@
 use Prim.Native.Nat.{ℕ, _+_, _-_, _*_, _/_, _%_, _^_, _≤_, _<_}
 use mathlib.Core.Path.{_≡_, refl, ap, _∙_}
 use mathlib.Core.List.{List}
-use native.Mathlib.Nat.{lt-of-le-of-lt, pow-zero, div-one, zero-mul}
+use native.Mathlib.Nat.{pow-zero, div-one, zero-mul}
 use native.Mathlib.Omega.{arith}
-use lib.ListN.{length, getD, length-set}
+use lib.ListN.{length, length-set}
 use lib.Pow.{pow-pos, pow-add}
 use mir.Val.{Fits}
 use mir.Syntax.{w64}
 use denote.Ref.{now}
 use borrow.Author.Needs.{needs}
-use Rattle.polynomials.specs.Indices.{upto}
 use Rattle.polynomials.specs.Lists.{coefficient}
 use Rattle.polynomials.specs.Places.{packed, field, fields}
 use Rattle.polynomials.specs.PlaceLaws.{packed-next, packed-fewer, packed-one, one-power, field-next}
 use Rattle.polynomials.specs.Blocks.{raised}
 use Rattle.polynomials.specs.BlockLaws.{packed-raised}
-use Rattle.packed.proofs.blocks.add_fields.Statement.{statement}
-use Rattle.packed.proofs.blocks.add_fields.Tie as tie
+use Rattle.packed.proofs.columns.add_fields.Statement.{statement}
+use Rattle.packed.proofs.columns.add_fields.Tie as tie
 
 record Turn (t m word at : ℕ) (old sums : List ℕ) (rest i : ℕ) : Type 0 where
   most : i ≤ m
