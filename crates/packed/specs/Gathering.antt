@@ -2,13 +2,15 @@
 --     Packing s xs                       a list whose blocks can be packed
 --     packedBack s xs count r            word r of its blocks backwards: three words of empty blocks, then the highest of count blocks
 --     Working s a b out                  two lists and a list lent for their product: nothing is refused and there is something to write
---     Works s a b old new                their product is written
+--     productResidue p a b j             coefficient j of the product modulo p
+--     Works s a b old new                these are written, and what stood after them stays
 --     Blank ws m                         words that are zero, and at least m of them
 --     Room s a b xs ys sums              blank lists, long enough for the blocks and the sums of a and b
 --     Gathering s a b xs ys sums         the blocks of a lie in xs and those of b backwards in ys; the sums are blank
---     Sums a b old sums                  the sums are the product's coefficients, unreduced
+--     Sums a b old sums                  the sums are the product's coefficients, unreduced; sumResidue p sums j is one modulo p
 --     Batching xs ys                     words below 2^32, and the sum of their products fits a word, from each of the first four places of ys on
 --     BatchWords xs ys w1 w2 w3 w4       the words of one batch in four columns: each is the sum of the products of those words
+--     fieldsIn t k b w                   the 2k-1 fields of the word w, as a number in the base b
 --     AddsWord t m word at old new       the word's m lowest fields are added to the sums from place at on: told by what the sums are in every base
 --     AddingWords t k w1 w2 w3 w4 at sums, AddsWords t k w1 w2 w3 w4 at old new
 --                                        four words, each k places above the one before: room for their fields, and that they are added
@@ -95,18 +97,21 @@ pub record AddsWord (t m word at : ℕ) (old new : List ℕ) : Type 0 where
   pub size : length new ≡ length old
   pub in-base : (b : ℕ) → packed b new ≡ packed b old + spread (2 ^ t) m b word * b ^ at
 
+abbrev pub fieldsIn : ℕ → ℕ → ℕ → ℕ → ℕ
+fieldsIn t k b w = spread (2 ^ t) (2 * k - 1) b w
+
 pub record AddingWords (t k w1 w2 w3 w4 at : ℕ) (sums : List ℕ) : Type 0 where
   pub width : t < wordBits
   pub k-low : 1 ≤ k
   pub k-high : k ≤ mostCoefficients
   pub near : at < 2 ^ 32
   pub room : at + 5 * k ≤ suc (length sums)
-  pub total : packed 1 sums + (spread (2 ^ t) (2 * k - 1) 1 w1 + spread (2 ^ t) (2 * k - 1) 1 w2 + spread (2 ^ t) (2 * k - 1) 1 w3 + spread (2 ^ t) (2 * k - 1) 1 w4) < 2 ^ wordBits
+  pub total : packed 1 sums + (fieldsIn t k 1 w1 + fieldsIn t k 1 w2 + fieldsIn t k 1 w3 + fieldsIn t k 1 w4) < 2 ^ wordBits
 
 pub record AddsWords (t k w1 w2 w3 w4 at : ℕ) (old new : List ℕ) : Type 0 where
   pub size : length new ≡ length old
   pub in-base : (b : ℕ) → packed b new
-      ≡ packed b old + (spread (2 ^ t) (2 * k - 1) b w1 * b ^ at + spread (2 ^ t) (2 * k - 1) b w2 * b ^ (at + k) + spread (2 ^ t) (2 * k - 1) b w3 * b ^ (at + 2 * k) + spread (2 ^ t) (2 * k - 1) b w4 * b ^ (at + 3 * k))
+      ≡ packed b old + (fieldsIn t k b w1 * b ^ at + fieldsIn t k b w2 * b ^ (at + k) + fieldsIn t k b w3 * b ^ (at + 2 * k) + fieldsIn t k b w4 * b ^ (at + 3 * k))
 
 pub record AddsColumns (s : Setting) (xs ys : List ℕ) (i j count at : ℕ) (old new : List ℕ) : Type 0 where
   pub size : length new ≡ length old

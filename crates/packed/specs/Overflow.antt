@@ -1,7 +1,7 @@
 -- 18 Overflow: a batch sum would not fit its word. The sums are whole numbers, and a word holds those below 2^64.
 --     batchSums n m x y     of the m products x 0 y 0, x 1 y 1, ..: the sum of n that follow one another, from each of them on; near the end,
 --                           of what is left. A batch is such a run, wherever the products are cut into batches
---     overflows sums        one of the sums is 2^64 or more
+--     someOverflows sums    one of the sums is 2^64 or more
 --     blockCause s a b z    a batch of block z of the product: block i of the first list meets block z - i of the second
 --     overflowCause s a b   in one of the blocks of the product
 -- It never holds in an accepted setting: OverflowLaws.
@@ -21,12 +21,12 @@ use Rattle.packed.specs.declared.setting.Setting.{Setting}
 abbrev pub batchSums : ℕ → ℕ → (ℕ → ℕ) → (ℕ → ℕ) → List ℕ
 batchSums n m x y = upto m (λ i. dot x y i i (min n (m - i)))
 
-abbrev pub overflows : List ℕ → Bool
-overflows sums = ltb (firstBad (2 ^ wordBits) sums) (length sums)
+abbrev pub someOverflows : List ℕ → Bool
+someOverflows sums = ltb (firstBad (2 ^ wordBits) sums) (length sums)
 
 abbrev pub blockCause : Setting → List ℕ → List ℕ → ℕ → Bool
 blockCause s a b z =
-    overflows (batchSums (s .n) (suc z) (blockAt (base s) (s .k) (taken (s .p) a)) (λ i. blockAt (base s) (s .k) (taken (s .p) b) (z - i)))
+    someOverflows (batchSums (s .n) (suc z) (blockAt (base s) (s .k) (taken (s .p) a)) (λ i. blockAt (base s) (s .k) (taken (s .p) b) (z - i)))
 
 unfoldable pub overflowCause : Setting → List ℕ → List ℕ → Bool
 overflowCause s a b =

@@ -22,7 +22,7 @@ use crate::words::power;
 const COLUMNS: usize = 4;
 
 // The sums of one batch in each of four columns.
-struct BatchSums {
+struct FourWords {
     first: u64,
     second: u64,
     third: u64,
@@ -107,7 +107,7 @@ fn add_batch(
 }
 
 // The sums of the products of the words of xs with those of ys from place 3, 2, 1 and 0 on.
-fn batch(xs: &[u64], ys: &[u64]) -> BatchSums
+fn batch(xs: &[u64], ys: &[u64]) -> FourWords
     requires { ⌜ Batching (now xs) (now ys) ⌝ }
     ensures { λ r. ⌜ BatchWords (now (xs .entry)) (now (ys .entry)) (r .first) (r .second) (r .third) (r .fourth) ⌝ }
 {
@@ -124,7 +124,7 @@ fn batch(xs: &[u64], ys: &[u64]) -> BatchSums
         fourth = add_product(fourth, x, ys[r]);
         r += 1;
     }
-    BatchSums {
+    FourWords {
         first: first,
         second: second,
         third: third,
@@ -141,7 +141,7 @@ fn add_product(sum: u64, x: u64, y: u64) -> u64
 }
 
 // The 2k-1 fields of each word, added to the sums: of the first from place at on, and of each of the others k places further.
-fn add_words(t: u64, k: u64, words: BatchSums, at: usize, sums: &mut [u64])
+fn add_words(t: u64, k: u64, words: FourWords, at: usize, sums: &mut [u64])
     requires { ⌜ AddingWords t k (words .first) (words .second) (words .third) (words .fourth) at (now sums) ⌝ }
     ensures { λ _. ⌜ AddsWords t k (words .first) (words .second) (words .third) (words .fourth) at (now (sums .entry)) (now (sums .exit)) ⌝ }
 {
