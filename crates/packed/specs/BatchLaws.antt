@@ -16,11 +16,10 @@ use mathlib.Core.List.{List}
 use native.Mathlib.Nat.{le-trans, lt-of-le-of-lt, zero-mul, mul-one}
 use native.Mathlib.Decide.{decLt}
 use native.Mathlib.Omega.{arith}
-use lib.ListN.{length, take, drop, length-take}
-use lib.Seq.{getD-take, getD-drop}
+use lib.ListN.{length, length-take}
 use Rattle.polynomials.specs.IndexLaws.{length-upto, sum-same, sum-join}
-use Rattle.polynomials.specs.Lists.{coefficient, Below, Operand, Pair, Pairs, sumOfProducts, batchMost}
-use Rattle.polynomials.specs.ListLaws.{coefficient-past}
+use Rattle.polynomials.specs.Lists.{coefficient, part, Below, Operand, Pair, Pairs, sumOfProducts, batchMost}
+use Rattle.polynomials.specs.ListLaws.{coefficient-past, coefficient-part}
 use Rattle.polynomials.specs.BoundLaws.{batch-most, batch-more, batch-past}
 use Rattle.polynomials.specs.Places.{packed, fields, sumOfWords}
 use Rattle.polynomials.specs.PlaceLaws.{fields-packed, one-power}
@@ -52,19 +51,19 @@ columnsWorth s b xs ys i j m at =
     + columnWorth s b xs ys i (j + 0) m * b ^ (at + 3 * s .k)
 
 pub taken-part : (p k : ℕ) (xs : List ℕ) (i start end j : ℕ) → start ≡ min (i * k) (length xs) → end ≡ min (start + k) (length xs)
-    → coefficient (taken p (take (end - start) (drop start xs))) j ≡ coefficient (block k (taken p xs) i) j
+    → coefficient (taken p (part start end xs)) j ≡ coefficient (block k (taken p xs) i) j
 taken-part p k xs i start end j hs he = go (decLt j (end - start)) (decLt j k)
   where
-    go : Dec (j < end - start) → Dec (j < k) → coefficient (taken p (take (end - start) (drop start xs))) j ≡ coefficient (block k (taken p xs) i) j
+    go : Dec (j < end - start) → Dec (j < k) → coefficient (taken p (part start end xs)) j ≡ coefficient (block k (taken p xs) i) j
     go (yes l) d =
         let here : start ≡ i * k = omega arith in
-        let at : coefficient (take (end - start) (drop start xs)) j ≡ coefficient xs (i * k + j) = getD-take (end - start) (drop start xs) j 0 l ∙ getD-drop start xs j 0 ∙ rw here in
-        taken-at p (take (end - start) (drop start xs)) j ∙ rw (at, ← taken-at p xs (i * k + j)) (sym (coefficient-block k (taken p xs) i j (omega arith)))
+        let at : coefficient (part start end xs) j ≡ coefficient xs (i * k + j) = coefficient-part start end xs j l ∙ rw here in
+        taken-at p (part start end xs) j ∙ rw (at, ← taken-at p xs (i * k + j)) (sym (coefficient-block k (taken p xs) i j (omega arith)))
     go (no l) (yes h) =
-        coefficient-past (taken p (take (end - start) (drop start xs))) j (simp (taken-length, length-take) (omega arith))
+        coefficient-past (taken p (part start end xs)) j (simp (taken-length, length-take) (omega arith))
         ∙ sym (coefficient-block k (taken p xs) i j h ∙ coefficient-past (taken p xs) (i * k + j) (rw taken-length (omega arith)))
     go (no l) (no h) =
-        coefficient-past (taken p (take (end - start) (drop start xs))) j (simp (taken-length, length-take) (omega arith))
+        coefficient-past (taken p (part start end xs)) j (simp (taken-length, length-take) (omega arith))
         ∙ sym (coefficient-past (block k (taken p xs) i) j (rw length-upto (omega arith)))
 
 pub packed-word : (s : Setting) (xs : List ℕ) → Bounds s → length xs ≡ s .k → Below (s .p) xs → PackedWord s (packed (base s) xs)

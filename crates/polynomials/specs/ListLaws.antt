@@ -4,6 +4,8 @@
 --     coefficient-past                     zero past the end
 --     coefficient-after                    past a first list, that of the second
 --     coefficient-zeros                    zeros at the high end change no coefficient
+--     length-part, coefficient-part, part-below
+--                                          a part: its length, what stands in it, and that a bound stays
 --     filled-at, filled-after, length-filled
 --                                          a filled list: what was written, what was there, and its length
 --     length-LIST, coefficient-LIST        of a sum, a scaled list, a product, residues, each under that name
@@ -14,10 +16,10 @@ use mathlib.Core.List.{List, [], _∷_, _++_}
 use native.Mathlib.Nat.{zero-add, add-zero, zero-mul, mul-zero, zero-mod, sub-zero, suc-sub-suc}
 use native.Mathlib.Decide.{decLt}
 use native.Mathlib.Omega.{arith}
-use lib.ListN.{length, replicate, drop, length-append, length-drop, List·getD-append, List·getD-eq-default}
-use lib.Seq.{ext-getD, getD-append-add, getD-drop}
+use lib.ListN.{length, replicate, drop, length-append, length-take, length-drop, List·getD-append, List·getD-eq-default}
+use lib.Seq.{ext-getD, getD-append-add, getD-take, getD-drop}
 use Rattle.polynomials.specs.Indices.{upto, filled}
-use Rattle.polynomials.specs.Lists.{coefficient, sum, scaled, productLength, productAt, product, residues}
+use Rattle.polynomials.specs.Lists.{coefficient, part, sum, scaled, productLength, productAt, product, residues, Below}
 use Rattle.polynomials.specs.IndexLaws.{length-upto, upto-at, upto-past, sum-zero, sum-front, sum-same}
 
 pub lists-agree : (xs ys : List ℕ) → length xs ≡ length ys → ((j : ℕ) → j < length xs → coefficient xs j ≡ coefficient ys j) → xs ≡ ys
@@ -35,6 +37,20 @@ pub coefficient-after : (xs ys : List ℕ) (j : ℕ) → length xs ≤ j → coe
 coefficient-after xs ys j h =
     let split : length xs + (j - length xs) ≡ j = omega arith in
     rw split at (getD-append-add xs ys (j - length xs) 0)
+
+-- a part: its length, what stands in it, and that a bound stays
+pub length-part : (i end : ℕ) (xs : List ℕ) → end ≤ length xs → length (part i end xs) ≡ end - i
+length-part i end xs h = simp (length-take, length-drop) (omega arith)
+
+pub coefficient-part : (i end : ℕ) (xs : List ℕ) (r : ℕ) → r < end - i → coefficient (part i end xs) r ≡ coefficient xs (i + r)
+coefficient-part i end xs r h = getD-take (end - i) (drop i xs) r 0 h ∙ getD-drop i xs r 0
+
+pub part-below : (c i end : ℕ) (xs : List ℕ) → 0 < c → Below c xs → Below c (part i end xs)
+part-below c i end xs hc h r = go (decLt r (end - i))
+  where
+    go : Dec (r < end - i) → coefficient (part i end xs) r < c
+    go (yes l) = rw (coefficient-part i end xs r l) (h (i + r))
+    go (no l) = rw (coefficient-past (part i end xs) r (simp length-take (omega arith))) hc
 
 -- a filled list: what was written, what was there, and its length
 pub filled-at : (m : ℕ) (f : ℕ → ℕ) (old : List ℕ) (i : ℕ) → i < m → coefficient (filled m f old) i ≡ f i

@@ -1,5 +1,6 @@
 -- A list of whole numbers as a polynomial, the coefficient of x^0 first. Definitions only.
 --     coefficient xs j          what stands at j, and zero past the end
+--     part i end xs             what stands from place i on, up to and without place end: a part of a list, as the code cuts it
 --     sum xs ys                 place by place
 --     scaled c xs               c times every coefficient
 --     productLength m n         the length of a product: m + n - 1, and none if either factor is empty
@@ -15,11 +16,14 @@
 --     batchMost p k r j         r times that, for the sum of r such products
 use Prim.Native.Nat.{ℕ, zero, suc, _+_, _-_, _*_, _%_, _<_, _≤_, min}
 use mathlib.Core.List.{List, [], _∷_}
-use lib.ListN.{length, getD}
+use lib.ListN.{length, getD, take, drop}
 use Rattle.polynomials.specs.Indices.{sumTo, upto}
 
 abbrev pub coefficient : List ℕ → ℕ → ℕ
 coefficient xs j = getD xs j 0
+
+abbrev pub part : ℕ → ℕ → List ℕ → List ℕ
+part i end xs = take (end - i) (drop i xs)
 
 abbrev pub sum : List ℕ → List ℕ → List ℕ
 sum [] ys = ys

@@ -1,12 +1,13 @@
 -- `pack_block` meets its contract. Assumes nothing.
-use Prim.Native.Nat.{ℕ, _+_, _-_, _*_, _^_, _<_, min}
+use Prim.Native.Nat.{ℕ, _+_, _*_, _^_, _<_, min}
 use mathlib.Core.Path.{_≡_, _∙_}
 use mathlib.Core.List.{List}
 use native.Mathlib.Nat.{mul-le-mul}
 use native.Mathlib.Omega.{arith}
-use lib.ListN.{length, take, drop}
+use lib.ListN.{length}
 use denote.Ref.{now}
 use borrow.Author.Needs.{needs}
+use Rattle.polynomials.specs.Lists.{part}
 use Rattle.polynomials.specs.Places.{packed}
 use Rattle.polynomials.specs.PlaceLaws.{packed-agree}
 use Rattle.polynomials.specs.Blocks.{block, blockAt}
@@ -21,8 +22,8 @@ use Rattle.packed.proofs.blocks.pack_block.Tie as tie
 module _ (s : Setting) (xs : List ℕ) (i : ℕ) (pre : Packing s xs) where
   -- the part that is packed is the block
   same : (start end : ℕ) → start ≡ min (i * s .k) (length xs) → end ≡ min (start + s .k) (length xs)
-      → packed (2 ^ s .t) (taken (s .p) (take (end - start) (drop start xs))) ≡ blockAt (2 ^ s .t) (s .k) (taken (s .p) xs) i
-  same start end hs he = packed-agree (2 ^ s .t) (taken (s .p) (take (end - start) (drop start xs))) (block (s .k) (taken (s .p) xs) i) (λ j. taken-part (s .p) (s .k) xs i start end j hs he)
+      → packed (2 ^ s .t) (taken (s .p) (part start end xs)) ≡ blockAt (2 ^ s .t) (s .k) (taken (s .p) xs) i
+  same start end hs he = packed-agree (2 ^ s .t) (taken (s .p) (part start end xs)) (block (s .k) (taken (s .p) xs) i) (λ j. taken-part (s .p) (s .k) xs i start end j hs he)
 
   word : blockAt (2 ^ s .t) (s .k) (taken (s .p) xs) i < 2 ^ 32
   word = pre .bounded .word-fits (block (s .k) (taken (s .p) xs) i) (block-operand (s .p) (s .k) (taken (s .p) xs) i (rw (taken-below (s .p) xs (pre .below)) (pre .below)))

@@ -3,15 +3,13 @@ use Prim.Native.Nat.{ℕ, _+_, _-_, _*_, _^_, _≤_, _<_}
 use mathlib.Core.Path.{_≡_, refl, _∙_}
 use mathlib.Core.List.{List}
 use native.Mathlib.Nat.{zero-add}
-use native.Mathlib.Decide.{decLt}
 use native.Mathlib.Omega.{arith}
-use lib.ListN.{length, take, drop, length-take, length-drop}
-use lib.Seq.{getD-take, getD-drop}
+use lib.ListN.{length}
 use denote.Ref.{now}
 use borrow.Author.Needs.{needs}
 use Rattle.polynomials.specs.IndexLaws.{sum-same}
-use Rattle.polynomials.specs.Lists.{coefficient, Below}
-use Rattle.polynomials.specs.ListLaws.{coefficient-past}
+use Rattle.polynomials.specs.Lists.{coefficient, part, Below}
+use Rattle.polynomials.specs.ListLaws.{length-part, coefficient-part, part-below}
 use Rattle.polynomials.specs.Blocks.{dot, spread}
 use Rattle.packed.specs.Bounds.{Bounds}
 use Rattle.packed.specs.BatchLaws.{PackedWords, columnWorth, columnsWorth, columns-one, batch-fits, batch-worth}
@@ -20,39 +18,20 @@ use Rattle.packed.specs.declared.setting.Setting.{Setting}
 use Rattle.packed.proofs.columns.add_batch.Statement.{statement}
 use Rattle.packed.proofs.columns.add_batch.Tie as tie
 
--- ---- a part of a list, on plain values
-
-module _ (xs : List ℕ) (i end : ℕ) (inside : end ≤ length xs) where
-  abbrev part : List ℕ
-  part = take (end - i) (drop i xs)
-
-  part-length : length part ≡ end - i
-  part-length = simp (length-take, length-drop) (omega arith)
-
-  part-at : (r : ℕ) → r < end - i → coefficient part r ≡ coefficient xs (i + r)
-  part-at r h = getD-take (end - i) (drop i xs) r 0 h ∙ getD-drop i xs r 0
-
-  part-below : (c : ℕ) → 0 < c → Below c xs → Below c part
-  part-below c hc h r = go (decLt r (end - i))
-    where
-      go : Dec (r < end - i) → coefficient part r < c
-      go (yes l) = rw (part-at r l) (h (i + r))
-      go (no l) = rw (coefficient-past part r (rw part-length (omega arith))) hc
-
 word-below : (s : Setting) (ws : List ℕ) → Bounds s → PackedWords s ws → Below (2 ^ 32) ws
 word-below s ws b h i = rw (h i .whole) at (b .word-fits _ (h i .operand))
 
--- ---- the batch, on plain values
+-- ---- on plain values
 
 module _ (s : Setting) (xs ys : List ℕ) (i j count at : ℕ) (sums : List ℕ) (pre : Adding s xs ys i j count at sums) (few : count ≤ s .n) where
   abbrev left : List ℕ
-  left = part xs i (i + count) (pre .left-room)
+  left = part i (i + count) xs
 
   abbrev right : List ℕ
-  right = part ys j (j + count + 3) (omega (arith, pre .right-room))
+  right = part j (j + count + 3) ys
 
   left-length : length left ≡ count
-  left-length = part-length xs i (i + count) (pre .left-room) ∙ omega arith
+  left-length = length-part i (i + count) xs (pre .left-room) ∙ omega arith
 
   -- products of the parts' words are products of the lists' words
   dots : (u : ℕ) → u ≤ 3 → dot (coefficient left) (coefficient right) 0 u (length left) ≡ dot (coefficient xs) (coefficient ys) i (j + u) count
@@ -63,13 +42,13 @@ module _ (s : Setting) (xs ys : List ℕ) (i j count at : ℕ) (sums : List ℕ)
       term : (r : ℕ) → r < count → coefficient left (0 + r) * coefficient right (u + r) ≡ coefficient xs (i + r) * coefficient ys (j + u + r)
       term r l =
           let there : j + (u + r) ≡ j + u + r = omega arith in
-          rw (zero-add r, part-at xs i (i + count) (pre .left-room) r (omega arith), part-at ys j (j + count + 3) (omega (arith, pre .right-room)) (u + r) (omega arith), there)
+          rw (zero-add r, coefficient-part i (i + count) xs r (omega arith), coefficient-part j (j + count + 3) ys (u + r) (omega arith), there)
 
   batching : Batching left right
   batching = record {
-    room = omega (arith, left-length, part-length ys j (j + count + 3) (omega (arith, pre .right-room)));
-    left-below = part-below xs i (i + count) (pre .left-room) (2 ^ 32) (omega arith) (word-below s xs (pre .bounded) (pre .left));
-    right-below = part-below ys j (j + count + 3) (omega (arith, pre .right-room)) (2 ^ 32) (omega arith) (word-below s ys (pre .bounded) (pre .right));
+    room = omega (arith, left-length, length-part j (j + count + 3) ys (omega (arith, pre .right-room)));
+    left-below = part-below (2 ^ 32) i (i + count) xs (omega arith) (word-below s xs (pre .bounded) (pre .left));
+    right-below = part-below (2 ^ 32) j (j + count + 3) ys (omega arith) (word-below s ys (pre .bounded) (pre .right));
     fits = λ u h. rw (dots u h) (batch-fits s (pre .bounded) xs ys (pre .left) (pre .right) i (j + u) count few);
   }
 
