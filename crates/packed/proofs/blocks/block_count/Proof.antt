@@ -1,0 +1,20 @@
+-- `block_count` meets its contract. The search finds this too; written out, a wrong count is refused here. Assumes nothing.
+use mathlib.Core.Path.{refl}
+use borrow.Author.Needs.{needs}
+use Rattle.packed.proofs.blocks.block_count.Statement.{statement}
+use Rattle.packed.proofs.blocks.block_count.Tie as tie
+
+add-result : tie.Need-add-result
+add-result c = search needs
+
+sub-result : tie.Need-sub-result
+sub-result c = search needs
+
+div-result : tie.Need-div-result
+div-result c = search needs
+
+returns : tie.Need-returns
+returns c = refl
+
+pub block-count-spec : {M : Type 1} → statement M
+block-count-spec = tie.close (tie.spec add-result sub-result div-result returns)
