@@ -6,6 +6,7 @@
 --     gathered-none               before the first, none are
 --     gathered-all                after all of them, the sums are the product's coefficients
 --     blocks-lie                  blank lists that were filled with the words of the blocks are as gathering asks
+--     sums-enough                 the sums have a place for every coefficient of the product
 --     sums-works                  the remainders of the sums are the product's coefficients modulo p
 --     blank-room                  zeros, and how many are enough for lists of a length
 use Prim.Native.Nat.{ℕ, _+_, _-_, _*_, _^_, _≤_, _<_, min}
@@ -34,7 +35,7 @@ use Rattle.packed.specs.BatchLaws.{PackedWord, worth, columnWorth, colum
 use Rattle.packed.specs.Gathering.{Packing, packedBack, Working, Works, sumResidue, Blank, Room, Gathering, Sums, AddsColumns, Adding}
 use Rattle.packed.specs.declared.setting.Setting.{Setting}
 
--- what an operand is worth in the base c
+-- the blocks of a list, each packed in the base c
 abbrev blocksIn : Setting → ℕ → List ℕ → List ℕ
 blocksIn s c a = blockList c (s .k) (blocks (s .k) (length a)) a
 

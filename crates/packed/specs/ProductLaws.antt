@@ -1,4 +1,4 @@
--- Product, from its promise alone. Assumes nothing.
+-- What passing the checks of product says, and what follows from its promise. Assumes nothing.
 --     Factors s a b len     what holds where nothing is refused up to 10
 --     factors-checked       so it is
 --     product-refused       what is refused up to 10 is what product refuses

@@ -21,6 +21,9 @@ use crate::setting::Setting;
 use crate::setting::check;
 use crate::words::first_bad_of_two;
 
+// The longest list that is worked in short arrays.
+const SHORT_FACTOR: usize = 256;
+
 // Coefficient j is the sum of a_i b_(j-i) modulo p, for two lists of 0 to 4,096 coefficients: 9, 8, 10, 18.
 pub fn product(s: Setting, a: &[u16], b: &[u16], out: &mut [u16]) -> Wrote
     ensures { λ r. ⌜ Multiplies s (now (a .entry)) (now (b .entry)) (now (out .entry)) r (now (out .exit)) ⌝ }
@@ -81,8 +84,8 @@ fn multiply(s: Setting, a: &[u16], b: &[u16], out: &mut [u16]) -> bool
     requires { ⌜ Working s (now a) (now b) (now out) ⌝ }
     ensures { λ r. ⌜ (r ≡ true) × Works s (now (a .entry)) (now (b .entry)) (now (out .entry)) (now (out .exit)) ⌝ }
 {
-    if a.len() <= 256 {
-        if b.len() <= 256 {
+    if a.len() <= SHORT_FACTOR {
+        if b.len() <= SHORT_FACTOR {
             return multiply_short(s, a, b, out);
         }
     }

@@ -96,13 +96,13 @@ mul-add-columns : tie.Need-mul-add-columns Inv-loop μ-loop
 mul-add-columns c =
     let a = c .before .before .before .before .before .before .before .before .before .before .before .before .before .args in
     let l = c .before .before .before .before .loop in
-    omega (arith, asks (a .s) (now (a .a)) (now (a .b)) (now (a .xs)) (now (a .ys)) (now (a .sums)) (c .before .before .before .before .before .before .before .before .before .before .before .before .before .pre) (l .sums) (l .z) (c .before .before .before .before .before .before .before .block-count .result) (c .before .before .before .before .before .before .block-count2 .result) (c .before .before .excess .result) (c .excess2 .result) (c .before .least .result) (l .inv .so-far) (c .before .before .before .before .before .before .before .block-count .ensures) (c .before .before .before .before .before .before .block-count2 .ensures) (c .before .before .excess .ensures) (c .excess2 .ensures) (c .before .least .ensures) (c .before .before .before .loop-test .taken) .near)
+    omega (arith, asks (a .s) (now (a .a)) (now (a .b)) (now (a .xs)) (now (a .ys)) (now (a .sums)) (c .before .before .before .before .before .before .before .before .before .before .before .before .before .pre) (l .sums) (l .z) (c .before .before .before .before .before .before .before .block-count .result) (c .before .before .before .before .before .before .block-count2 .result) (c .before .before .excess .result) (c .excess2 .result) (c .before .least .result) (l .inv .so-far) (c .before .before .before .before .before .before .before .block-count .ensures) (c .before .before .before .before .before .before .block-count2 .ensures) (c .before .before .excess .ensures) (c .excess2 .ensures) (c .before .least .ensures) (omega (arith, c .before .before .before .loop-test .taken)) .near)
 
 add-columns-requires : tie.Need-add-columns-requires Inv-loop μ-loop
 add-columns-requires c κs =
     let a = c .before .before .before .before .before .before .before .before .before .before .before .before .before .before .args in
     let l = c .before .before .before .before .before .loop in (
-      asks (a .s) (now (a .a)) (now (a .b)) (now (a .xs)) (now (a .ys)) (now (a .sums)) (c .before .before .before .before .before .before .before .before .before .before .before .before .before .before .pre) (l .sums) (l .z) (c .before .before .before .before .before .before .before .before .block-count .result) (c .before .before .before .before .before .before .before .block-count2 .result) (c .before .before .before .excess .result) (c .before .excess2 .result) (c .before .before .least .result) (l .inv .so-far) (c .before .before .before .before .before .before .before .before .block-count .ensures) (c .before .before .before .before .before .before .before .block-count2 .ensures) (c .before .before .before .excess .ensures) (c .before .excess2 .ensures) (c .before .before .least .ensures) (c .before .before .before .before .loop-test .taken),
+      asks (a .s) (now (a .a)) (now (a .b)) (now (a .xs)) (now (a .ys)) (now (a .sums)) (c .before .before .before .before .before .before .before .before .before .before .before .before .before .before .pre) (l .sums) (l .z) (c .before .before .before .before .before .before .before .before .block-count .result) (c .before .before .before .before .before .before .before .block-count2 .result) (c .before .before .before .excess .result) (c .before .excess2 .result) (c .before .before .least .result) (l .inv .so-far) (c .before .before .before .before .before .before .before .before .block-count .ensures) (c .before .before .before .before .before .before .before .block-count2 .ensures) (c .before .before .before .excess .ensures) (c .before .excess2 .ensures) (c .before .before .least .ensures) (omega (arith, c .before .before .before .before .loop-test .taken)),
       c .before .before .before .before .before .before .products-that-fit .ensures,
     )
 
@@ -127,7 +127,7 @@ loop-again c =
       n-few = l .inv .n-few;
       near = omega (arith, c .before .before .before .before .before .before .before .before .loop-test .taken);
       so-far =
-          gives (a .s) (now (a .a)) (now (a .b)) (now (a .xs)) (now (a .ys)) (now (a .sums)) (c .before .before .before .before .before .before .before .before .before .before .before .before .before .before .before .before .before .before .pre) (l .sums) (l .z) (c .before .before .before .before .before .before .before .before .before .before .before .before .block-count .result) (c .before .before .before .before .before .before .before .before .before .before .before .block-count2 .result) (c .before .before .before .before .before .before .before .excess .result) (c .before .before .before .before .before .excess2 .result) (c .before .before .before .before .before .before .least .result) (l .inv .so-far) (c .before .before .before .before .before .before .before .before .before .before .before .before .block-count .ensures) (c .before .before .before .before .before .before .before .before .before .before .before .block-count2 .ensures) (c .before .before .before .before .before .before .before .excess .ensures) (c .before .before .before .before .before .excess2 .ensures) (c .before .before .before .before .before .before .least .ensures) (c .before .before .before .before .before .before .before .before .loop-test .taken)
+          gives (a .s) (now (a .a)) (now (a .b)) (now (a .xs)) (now (a .ys)) (now (a .sums)) (c .before .before .before .before .before .before .before .before .before .before .before .before .before .before .before .before .before .before .pre) (l .sums) (l .z) (c .before .before .before .before .before .before .before .before .before .before .before .before .block-count .result) (c .before .before .before .before .before .before .before .before .before .before .before .block-count2 .result) (c .before .before .before .before .before .before .before .excess .result) (c .before .before .before .before .before .excess2 .result) (c .before .before .before .before .before .before .least .result) (l .inv .so-far) (c .before .before .before .before .before .before .before .before .before .before .before .before .block-count .ensures) (c .before .before .before .before .before .before .before .before .before .before .before .block-count2 .ensures) (c .before .before .before .before .before .before .before .excess .ensures) (c .before .before .before .before .before .excess2 .ensures) (c .before .before .before .before .before .before .least .ensures) (omega (arith, c .before .before .before .before .before .before .before .before .loop-test .taken))
           (c .before .before .before .add-columns .ensures .1);
     }
 
