@@ -3,6 +3,7 @@
 --     Verdict, fine       an answer with nothing to say but that no check refused
 --     refuse cause n i    refused with number n and place i, where the cause holds
 --     v andThen a         checks in order: what v refuses, and else a
+--     refuses a           whether an answer is a refusal
 --     wrote v new         a call that only writes answers how many elements it wrote
 --     leftBy v new old    the lent list afterwards: old contents on a refusal, else the new elements and those after them as they were
 --     numbers             an answer in numbers: the refusal's number (0 for none), its place, and the value's own
@@ -31,6 +32,10 @@ refuse false number place = fine
 abbrev pub _andThen_ : {A : Type 0} → Verdict → Answer A → Answer A
 _andThen_ (answered u) a = a
 _andThen_ (refused number place) a = refused number place
+
+abbrev pub refuses : {A : Type 0} → Answer A → Bool
+refuses (answered v) = false
+refuses (refused number place) = true
 
 abbrev pub wrote : Verdict → List ℕ → Answer ℕ
 wrote v new = v andThen answered (length new)

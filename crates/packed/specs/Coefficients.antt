@@ -6,6 +6,7 @@
 --                               8 with that place, for one list and for two
 --     coefficient-check, coefficients-check
 --                               they pass exactly where every coefficient is below p
+--     NoneAbove most xs         no coefficient is above most
 --     taken p xs                what packing takes of a list: the list itself; takenOne p x, of one coefficient
 --     taken-length, taken-at, taken-below, taken-operand
 --                               it has the list's length; it is taken one by one; of a list below p it is the list, and so an operand
@@ -31,6 +32,9 @@ tooLarge p xs i = leb p (coefficient xs i)
 
 abbrev pub firstBad : ℕ → List ℕ → ℕ
 firstBad p xs = first (tooLarge p xs) (length xs) 0
+
+pub record NoneAbove (most : ℕ) (xs : List ℕ) : Type 0 where
+  pub each : (j : ℕ) → coefficient xs j ≤ most
 
 abbrev pub firstBadOfTwo : ℕ → List ℕ → List ℕ → ℕ
 firstBadOfTwo p xs ys = pick (ltb (firstBad p xs) (length xs)) (firstBad p xs) (length xs + firstBad p ys)

@@ -11,10 +11,12 @@ pub mod Places
 pub mod Tables
 pub mod Overflow
 pub mod Products
+pub mod Running
 pub mod Bounds
 pub mod BatchLaws
 pub mod Gathering
 pub mod GatherLaws
+pub mod Feeding
 pub mod WordLaws
 pub mod TableLaws
 pub mod FitLaws
@@ -25,4 +27,7 @@ pub mod ByTableLaws
 pub mod BuildLaws
 pub mod OverflowLaws
 pub mod ProductLaws
+pub mod RunningLaws
+pub mod FeedLaws
+pub mod RunningChecks
 pub mod Examples

@@ -22,3 +22,10 @@ largestTableModulus = 127
 
 abbrev pub longestFactor : ℕ
 longestFactor = 4096
+
+abbrev pub mostPairs : ℕ
+mostPairs = 1000000
+
+-- 2k-1 for the largest k
+abbrev pub residuePlaces : ℕ
+residuePlaces = 15

@@ -4,10 +4,13 @@
 --     someOverflows sums    one of the sums is 2^64 or more
 --     blockCause s a b z    a batch of block z of the product: block i of the first list meets block z - i of the second
 --     overflowCause s a b   in one of the blocks of the product
+--     feedOverflow s r w xs ys
+--                           of the pairs of two flat lists: the open batch, which has r pairs in the word w and takes what it still can, or a batch
+--                           after it
 -- It never holds in an accepted setting: OverflowLaws.
-use Prim.Native.Nat.{ℕ, suc, _-_, _^_, min}
+use Prim.Native.Nat.{ℕ, suc, _+_, _-_, _/_, _^_, min}
 use mathlib.Core.Bool.{Bool}
-use mathlib.Core.List.{List}
+use mathlib.Core.List.{List, _∷_}
 use lib.Dec.{ltb}
 use lib.ListN.{length}
 use Rattle.polynomials.specs.Indices.{upto, first}
@@ -27,6 +30,13 @@ someOverflows sums = ltb (firstBad (2 ^ wordBits) sums) (length sums)
 abbrev pub blockCause : Setting → List ℕ → List ℕ → ℕ → Bool
 blockCause s a b z =
     someOverflows (batchSums (s .n) (suc z) (blockAt (base s) (s .k) (taken (s .p) a)) (λ i. blockAt (base s) (s .k) (taken (s .p) b) (z - i)))
+
+unfoldable pub feedOverflow : Setting → ℕ → ℕ → List ℕ → List ℕ → Bool
+feedOverflow s r w xs ys =
+    let m : ℕ = length xs / s .k in
+    let x : ℕ → ℕ = blockAt (base s) (s .k) (taken (s .p) xs) in
+    let y : ℕ → ℕ = blockAt (base s) (s .k) (taken (s .p) ys) in
+    someOverflows ((w + dot x y 0 0 (min (s .n - r) m)) ∷ batchSums (s .n) m x y)
 
 unfoldable pub overflowCause : Setting → List ℕ → List ℕ → Bool
 overflowCause s a b =

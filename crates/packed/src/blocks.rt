@@ -4,16 +4,16 @@ ghost use Prim.Native.Nat.{_+_, _^_, _≤_};
 ghost use lib.ListN.{length};
 ghost use Rattle.polynomials.specs.Indices.{filled};
 ghost use Rattle.polynomials.specs.Blocks.{blocks, blockAt};
-ghost use Rattle.packed.specs.Limits.{mostCoefficients, longestFactor};
+ghost use Rattle.packed.specs.Limits.{largestBatch, longestFactor, mostPairs};
 ghost use Rattle.packed.specs.Coefficients.{taken};
 ghost use Rattle.packed.specs.Gathering.{Packing, packedBack};
 use crate::setting::Setting;
 use crate::words::least;
 use crate::words::pack_taken;
 
-// How many blocks len coefficients take.
+// How many blocks of k len elements take.
 pub fn block_count(k: u64, len: usize) -> usize
-    requires { ⌜ (1 ≤ k) × (k ≤ mostCoefficients) × (len ≤ longestFactor) ⌝ }
+    requires { ⌜ (1 ≤ k) × (k ≤ largestBatch) × (len ≤ mostPairs) ⌝ }
     ensures { λ r. ⌜ r ≡ blocks k len ⌝ }
 {
     (len + k as usize - 1) / k as usize

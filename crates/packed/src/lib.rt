@@ -1,5 +1,6 @@
 // Polynomials with coefficients modulo p, packed into one 64-bit word, a coefficient to every t bits.
 pub mod answers;
+mod batches;
 mod blocks;
 mod columns;
 mod entries;
@@ -8,6 +9,7 @@ mod overflow;
 pub mod places;
 pub mod products;
 pub mod refusals;
+pub mod running;
 pub mod setting;
 pub mod tables;
 mod words;

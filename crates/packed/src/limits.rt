@@ -12,3 +12,5 @@ pub const WORD_BITS: u64 = 64;
 pub const LARGEST_TABLE_MODULUS: u64 = 127;
 
 pub const LONGEST_FACTOR: usize = 4096;
+
+pub const MOST_PAIRS: u64 = 1000000;

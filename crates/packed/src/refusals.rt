@@ -56,6 +56,16 @@ pub const WORD: Refusal = Refusal {
     place: 0,
 };
 
+pub const RECORD: Refusal = Refusal {
+    number: 12,
+    place: 0,
+};
+
+pub const FULL: Refusal = Refusal {
+    number: 13,
+    place: 0,
+};
+
 pub const NO_TABLE: Refusal = Refusal {
     number: 14,
     place: 0,

@@ -7,7 +7,7 @@ ghost use Rattle.polynomials.specs.Indices.{upto, filled};
 ghost use Rattle.polynomials.specs.Places.{packed, field, shifted, reduced};
 ghost use Rattle.packed.specs.Limits.{largestModulus, mostCoefficients, wordBits};
 ghost use Rattle.packed.specs.Bounds.{Bounds};
-ghost use Rattle.packed.specs.Coefficients.{firstBad, firstBadOfTwo, taken, takenOne};
+ghost use Rattle.packed.specs.Coefficients.{firstBad, firstBadOfTwo, NoneAbove, taken, takenOne};
 ghost use Rattle.packed.specs.Places.{wordCause};
 ghost use Rattle.packed.specs.Tables.{firstBadWord};
 use crate::setting::Setting;
@@ -36,10 +36,14 @@ pub fn word_cause(s: Setting, word: u64) -> bool
     power(s.t) <= word >> ((2 * s.k - 2) * s.t)
 }
 
-// The index of the first coefficient that is not below p, or the list's length where there is none.
+// The index of the first coefficient that is not below p, or the list's length where there is none. It is searched for only where there is one:
+// finding the largest takes several coefficients at once.
 pub fn first_bad(p: u64, xs: &[u16]) -> usize
     ensures { λ r. ⌜ r ≡ firstBad p (now (xs .entry)) ⌝ }
 {
+    if wide(largest(xs)) < p {
+        return xs.len();
+    }
     let mut i = 0;
     while i < xs.len() {
         if p <= wide(xs[i]) {
@@ -48,6 +52,19 @@ pub fn first_bad(p: u64, xs: &[u16]) -> usize
         i += 1;
     }
     i
+}
+
+// A bound of all coefficients: the largest.
+fn largest(xs: &[u16]) -> u16
+    ensures { λ r. ⌜ NoneAbove r (now (xs .entry)) ⌝ }
+{
+    let mut most = 0u16;
+    let mut i = 0;
+    while i < xs.len() {
+        most = larger(most, xs[i]);
+        i += 1;
+    }
+    most
 }
 
 // In two lists the first is searched first, and an index in the second has the first's length added.
@@ -148,10 +165,16 @@ fn taken_one(p: u64, x: u16) -> u64
     wide(x)
 }
 
-fn wide(x: u16) -> u64
+pub fn wide(x: u16) -> u64
     ensures { λ r. ⌜ r ≡ x ⌝ }
 {
     x as u64
+}
+
+fn larger(x: u16, y: u16) -> u16
+    ensures { λ r. ⌜ (x ≤ r) × (y ≤ r) ⌝ }
+{
+    if x < y { y } else { x }
 }
 
 pub fn least(x: usize, y: usize) -> usize

@@ -1,24 +1,30 @@
 -- Laws of what runs over an index. Assumes nothing.
 --     length-upto, upto-at, upto-past               the list's length, its elements, and zero past its end
 --     upto-most                                     no element is above f's value there, also past the end
+--     upto-same                                     element by element
 --     filled-more                                   a filling loop's turn at i
 --     sum-zero, sum-front, sum-same, sum-window     sums: of zeros; first term apart; term by term; of a window of terms
 --     sum-join, sum-fewer, sum-part                 some terms and then more; fewer are no more; a part, where the others are zero
 --     first-is, first-only                          the search finds what First says, and First says it of one number only
 --     first-none                                    it is through exactly where the test holds at none of the numbers from 0
 --     first-found, first-passed, first-ended        a searching loop's turn at i: it stops, it goes on, it is through
+--     exceeds-none                                  no value is above its bound exactly where each is at most it
+--     exceeds-first, exceeds-passed, exceeds-found, exceeds-through
+--                                                   a loop that looks for one: at its start, its turn at i, where it stops, where it is through
 use Prim.Native.Nat.{ℕ, zero, suc, _+_, _-_, _*_, _≤_, _<_, min, zero-le}
 use mathlib.Core.Path.{_≡_, refl, sym, _∙_}
 use mathlib.Core.Bool.{Bool, true, false, true≢false}
 use mathlib.Core.Logic.{_↔_, ⊎-elim}
 use mathlib.Core.List.{List, [], _∷_}
-use native.Mathlib.Nat.{not-suc-le-zero, le-of-suc-le-suc, eq-or-lt-of-le, mul-le-mul-right, suc-mul, add-zero, add-suc}
+use native.Mathlib.Nat.{not-suc-le-zero, le-of-suc-le-suc, eq-or-lt-of-le, mul-le-mul-right, suc-mul, add-zero, add-suc, sub-zero}
 use native.Mathlib.Decide.{decLt}
 use native.Mathlib.Numerals.{add-one}
 use native.Mathlib.Omega.{arith}
+use lib.Dec.{ltb}
 use lib.ListN.{length, getD, set, drop, length-append, List·getD-append, List·getD-eq-default}
 use lib.Seq.{getD-at, set-at, drop-cons, append-snoc}
-use Rattle.polynomials.specs.Indices.{pick, sumTo, upto, filled, first, First}
+use borrow.Author.Tests.{lt-ltb, ltb-false, le-ltb}
+use Rattle.polynomials.specs.Indices.{pick, sumTo, upto, filled, first, First, above, exceeds}
 
 pub length-upto : (n : ℕ) (f : ℕ → ℕ) → length (upto n f) ≡ n
 length-upto zero f = refl
@@ -34,6 +40,10 @@ upto-at (suc n) f i h =
 
 pub upto-past : (n : ℕ) (f : ℕ → ℕ) (i : ℕ) → n ≤ i → getD (upto n f) i 0 ≡ 0
 upto-past n f i h = List·getD-eq-default (upto n f) 0 {n = i} (rw length-upto h)
+
+pub upto-same : (n : ℕ) (f g : ℕ → ℕ) → ((i : ℕ) → i < n → f i ≡ g i) → upto n f ≡ upto n g
+upto-same zero f g h = refl
+upto-same (suc n) f g h = rw (upto-same n f g (λ i l. h i (omega arith)), h n (omega arith))
 
 pub upto-most : (n : ℕ) (f : ℕ → ℕ) (i : ℕ) → getD (upto n f) i 0 ≤ f i
 upto-most n f i = go (decLt i n)
@@ -149,3 +159,25 @@ first-none test n = (
   λ none. let all : First test n 0 n = record { low = omega arith; high = omega arith; none-before = λ j a l. none j l; holds = λ a. absurd (omega arith) } in
       omega (arith, first-only test n 0 (first test n 0) n (first-is test n 0) all),
 )
+
+pub exceeds-none : (n : ℕ) (f most : ℕ → ℕ) → (exceeds n f most ≡ false) ↔ ((i : ℕ) → i < n → f i ≤ most i)
+exceeds-none n f most = (
+  λ e i l. ltb-false (most i) (f i) (first-none (above f most) n .0 (ltb-false (first (above f most) n 0) n e) i l),
+  λ h. le-ltb (first (above f most) n 0) n (first-none (above f most) n .1 (λ i l. le-ltb (most i) (f i) (h i l))),
+)
+
+-- before place i there is none: the search from 0 is the search from i
+abbrev pub NoneBefore : ℕ → (ℕ → ℕ) → (ℕ → ℕ) → ℕ → Type 0
+NoneBefore n f most i = first (above f most) n 0 ≡ first (above f most) (n - i) i
+
+pub exceeds-first : (n : ℕ) (f most : ℕ → ℕ) → NoneBefore n f most 0
+exceeds-first n f most = rw sub-zero
+
+pub exceeds-passed : (n : ℕ) (f most : ℕ → ℕ) (i : ℕ) → i < n → f i ≤ most i → NoneBefore n f most i → NoneBefore n f most (i + 1)
+exceeds-passed n f most i h l e = e ∙ first-passed (above f most) n i h (le-ltb (most i) (f i) l)
+
+pub exceeds-found : (n : ℕ) (f most : ℕ → ℕ) (i : ℕ) → i < n → most i < f i → NoneBefore n f most i → exceeds n f most ≡ true
+exceeds-found n f most i h l e = rw (e, first-found (above f most) n i h (lt-ltb (most i) (f i) l)) (lt-ltb i n h)
+
+pub exceeds-through : (n : ℕ) (f most : ℕ → ℕ) (i : ℕ) → n ≤ i → NoneBefore n f most i → exceeds n f most ≡ false
+exceeds-through n f most i h e = rw (e, first-ended (above f most) n i h) (le-ltb i n h)

@@ -5,10 +5,13 @@
 --     filled n f old    that list, and then what stands in old from place n on: what a loop has made of old that writes f i at place i
 --     first test n i    the first of the n numbers i, i + 1, .. at which the test holds, and i + n where it holds at none
 --     First             that a number is that one, without saying how it is found
+--     above f most i    f i is above most i
+--     exceeds n f most  so it is at one of the numbers 0, .., n - 1
 use Prim.Native.Nat.{ℕ, zero, suc, _+_, _≤_, _<_}
 use mathlib.Core.Path.{_≡_}
 use mathlib.Core.Bool.{Bool, true, false}
 use mathlib.Core.List.{List, [], _∷_, _++_}
+use lib.Dec.{ltb}
 use lib.ListN.{drop}
 
 abbrev pub pick : {A : Type 0} → Bool → A → A → A
@@ -35,3 +38,9 @@ pub record First (test : ℕ → Bool) (n i r : ℕ) : Type 0 where
   pub high : r ≤ i + n
   pub none-before : (j : ℕ) → i ≤ j → j < r → test j ≡ false
   pub holds : r < i + n → test r ≡ true
+
+abbrev pub above : (ℕ → ℕ) → (ℕ → ℕ) → ℕ → Bool
+above f most i = ltb (most i) (f i)
+
+abbrev pub exceeds : ℕ → (ℕ → ℕ) → (ℕ → ℕ) → Bool
+exceeds n f most = ltb (first (above f most) n 0) n

@@ -3,6 +3,7 @@ pub mod Indices
 pub mod Lists
 pub mod Places
 pub mod Blocks
+pub mod Pairs
 pub mod IndexLaws
 pub mod ListLaws
 pub mod BoundLaws
@@ -10,4 +11,5 @@ pub mod PlaceLaws
 pub mod ReductionLaws
 pub mod TableLaws
 pub mod BlockLaws
+pub mod PairLaws
 pub mod Examples

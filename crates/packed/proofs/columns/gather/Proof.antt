@@ -46,10 +46,10 @@ module _ (s : Setting) (a b xs ys old : List ℕ) (pre : Gathering s a b xs ys o
 -- ---- the needs
 
 block-count-requires : tie.Need-block-count-requires Inv-loop μ-loop
-block-count-requires c κs = let pre = c .before .before .before .before .before .pre .left in (pre .bounded .range .choice .k-low, pre .bounded .range .choice .k-high, pre .size)
+block-count-requires c κs = let pre = c .before .before .before .before .before .pre .left in (pre .bounded .range .choice .k-low, omega (arith, pre .bounded .range .choice .k-high), omega (arith, pre .size))
 
 block-count-requires-2 : tie.Need-block-count-requires-2 Inv-loop μ-loop
-block-count-requires-2 c κs = let pre = c .before .before .before .before .before .before .pre .right in (pre .bounded .range .choice .k-low, pre .bounded .range .choice .k-high, pre .size)
+block-count-requires-2 c κs = let pre = c .before .before .before .before .before .before .pre .right in (pre .bounded .range .choice .k-low, omega (arith, pre .bounded .range .choice .k-high), omega (arith, pre .size))
 
 products-that-fit-requires : tie.Need-products-that-fit-requires Inv-loop μ-loop
 products-that-fit-requires c κs = c .before .before .before .before .before .before .before .pre .left .bounded

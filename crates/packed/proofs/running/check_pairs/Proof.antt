@@ -1,0 +1,134 @@
+-- `check_pairs` meets its contract. Assumes nothing.
+use Prim.Native.Nat.{ℕ, _+_, _*_, _/_, _%_, _≤_, _<_}
+use mathlib.Core.Path.{_≡_, sym, _∙_}
+use mathlib.Core.Bool.{true, false}
+use mathlib.Core.List.{List}
+use native.Mathlib.Nat.{div-add-mod', mul-le-mul, div-le-self}
+use native.Mathlib.Omega.{arith}
+use lib.ListN.{length}
+use denote.Ref.{now}
+use borrow.Author.Needs.{needs}
+use borrow.Author.Tests.{eq-eqb, ne-eqb, lt-ltb, le-ltb}
+use Rattle.packed.specs.Limits.{mostPairs, mostCoefficients}
+use Rattle.packed.specs.Answers.{refused, fine}
+use Rattle.packed.specs.Coefficients.{firstBadOfTwo}
+use Rattle.packed.specs.Bounds.{Bounds, bounds}
+use Rattle.packed.specs.Running.{recordCause, Coherent, pairChecks}
+use Rattle.packed.specs.RunningLaws.{coherent-is}
+use Rattle.packed.specs.declared.running.Record.{Record}
+use Rattle.packed.proofs.running.check_pairs.Statement.{statement}
+use Rattle.packed.proofs.running.check_pairs.Tie as tie
+
+-- ---- on plain values: one law for each return
+
+module _ (r : Record) (xs ys : List ℕ) where
+  at-12 : recordCause r ≡ true → refused 12 0 ≡ pairChecks r xs ys
+  unfolding pairChecks
+  at-12 e = rw e
+
+  module _ (ok : recordCause r ≡ false) where
+    at-9 : (length xs ≡ length ys → ⊥) → refused 9 0 ≡ pairChecks r xs ys
+    unfolding pairChecks
+    at-9 h = rw (ok, ne-eqb (length xs) (length ys) h)
+
+    module _ (same : length xs ≡ length ys) where
+      at-9-whole : (length xs % r .setting .k ≡ 0 → ⊥) → refused 9 0 ≡ pairChecks r xs ys
+      unfolding pairChecks
+      at-9-whole h = rw (ok, eq-eqb (length xs) (length ys) same, ne-eqb (length xs % r .setting .k) 0 h)
+
+      module _ (whole : length xs % r .setting .k ≡ 0) where
+        at-13 : mostPairs < r .sum .total + length xs / r .setting .k → refused 13 0 ≡ pairChecks r xs ys
+        unfolding pairChecks
+        at-13 h = rw (ok, eq-eqb (length xs) (length ys) same, eq-eqb (length xs % r .setting .k) 0 whole, lt-ltb mostPairs (r .sum .total + length xs / r .setting .k) h)
+
+        module _ (few : r .sum .total + length xs / r .setting .k ≤ mostPairs) where
+          at-8 : firstBadOfTwo (r .setting .p) xs ys < length xs + length ys → refused 8 (firstBadOfTwo (r .setting .p) xs ys) ≡ pairChecks r xs ys
+          unfolding pairChecks
+          at-8 h =
+              rw (ok, eq-eqb (length xs) (length ys) same, eq-eqb (length xs % r .setting .k) 0 whole, le-ltb mostPairs (r .sum .total + length xs / r .setting .k) few, lt-ltb (firstBadOfTwo (r .setting .p) xs ys) (length xs + length ys) h)
+
+          at-end : length xs + length ys ≤ firstBadOfTwo (r .setting .p) xs ys → fine ≡ pairChecks r xs ys
+          unfolding pairChecks
+          at-end h =
+              rw (ok, eq-eqb (length xs) (length ys) same, eq-eqb (length xs % r .setting .k) 0 whole, le-ltb mostPairs (r .sum .total + length xs / r .setting .k) few, le-ltb (firstBadOfTwo (r .setting .p) xs ys) (length xs + length ys) h)
+
+          -- so many pairs are not so many coefficients
+          near : Bounds (r .setting) → length xs ≤ mostPairs * mostCoefficients
+          near b =
+              let k = r .setting .k in
+              omega (arith, div-add-mod' (length xs) k, mul-le-mul {n₁ = length xs / k} {m₁ = k} {n₂ = mostPairs} {m₂ = mostCoefficients} (omega arith) (b .range .choice .k-high))
+
+-- ---- what is known past each check
+
+coherent : (c : tie.After-s) → recordCause (c .before .before .before .before .before .args .running) ≡ false
+coherent c = sym (c .before .before .record-cause .ensures) ∙ c .before .if1 .left
+
+held : (c : tie.After-s) → Coherent (c .before .before .before .before .before .args .running .setting) (c .before .before .before .before .before .args .running .sum)
+held c = coherent-is (c .before .before .before .before .before .args .running) .0 (coherent c)
+
+length-near : (c : tie.Else4) → length (now (c .before .before .before .before .before .before .before .before .before .before .before .before .args .xs)) ≤ mostPairs * mostCoefficients
+length-near c = near (c .before .before .before .before .before .before .before .before .before .before .before .before .args .running) (now (c .before .before .before .before .before .before .before .before .before .before .before .before .args .xs)) (now (c .before .before .before .before .before .before .before .before .before .before .before .before .args .ys)) (coherent (c .before .before .before .before .before .before .before)) (c .before .before .before .before .before .before .if2 .left) (c .before .before .before .before .if3 .left) (c .if4 .left) (bounds _ (held (c .before .before .before .before .before .before .before) .accepted))
+
+-- ---- the needs
+
+record-cause-requires : tie.Need-record-cause-requires
+record-cause-requires c κs = search needs
+
+returns : tie.Need-returns
+returns c = at-12 (c .before .before .before .before .args .running) (now (c .before .before .before .before .args .xs)) (now (c .before .before .before .before .args .ys)) (sym (c .before .record-cause .ensures) ∙ c .if1 .taken)
+
+returns-2 : tie.Need-returns-2
+returns-2 c = at-9 (c .before .before .before .before .before .before .args .running) (now (c .before .before .before .before .before .before .args .xs)) (now (c .before .before .before .before .before .before .args .ys)) (coherent (c .before)) (c .if2 .taken)
+
+rem-if3 : tie.Need-rem-if3
+rem-if3 c = bounds _ (held (c .before .before) .accepted) .range .choice .k-low
+
+returns-3 : tie.Need-returns-3
+returns-3 c = at-9-whole (c .before .before .before .before .before .before .before .before .args .running) (now (c .before .before .before .before .before .before .before .before .args .xs)) (now (c .before .before .before .before .before .before .before .before .args .ys)) (coherent (c .before .before .before)) (c .before .before .if2 .left) (c .if3 .taken)
+
+div-if4 : tie.Need-div-if4
+div-if4 c = bounds _ (held (c .before .before .before .before .before) .accepted) .range .choice .k-low
+
+add-if4 : tie.Need-add-if4
+add-if4 c =
+    let a = c .before .before .before .before .before .before .before .before .before .before .before .args in
+    omega (arith, held (c .before .before .before .before .before .before) .few, div-le-self (length (now (a .xs))) (a .running .setting .k), c .before .before .before .before .before .before .before .before .before .before .before .good .1 .0 .1)
+
+returns-4 : tie.Need-returns-4
+returns-4 c = at-13 (c .before .before .before .before .before .before .before .before .before .before .before .before .args .running) (now (c .before .before .before .before .before .before .before .before .before .before .before .before .args .xs)) (now (c .before .before .before .before .before .before .before .before .before .before .before .before .args .ys)) (coherent (c .before .before .before .before .before .before .before)) (c .before .before .before .before .before .before .if2 .left) (c .before .before .before .before .if3 .left) (c .if4 .taken)
+
+first-bad-of-two-requires : tie.Need-first-bad-of-two-requires
+first-bad-of-two-requires c κs = omega (arith, length-near c, c .before .before .before .before .before .before .if2 .left)
+
+add-if5 : tie.Need-add-if5
+add-if5 c = omega (arith, length-near (c .before), c .before .before .before .before .before .before .before .if2 .left)
+
+coefficient-requires : tie.Need-coefficient-requires
+coefficient-requires c κs = search needs
+
+returns-5 : tie.Need-returns-5
+returns-5 c =
+    let found = c .before .before .first-bad-of-two .ensures in
+    rw (c .coefficient .ensures .0, c .coefficient .ensures .1, found)
+    (at-8 (c .before .before .before .before .before .before .before .before .before .before .before .before .before .before .before .args .running) (now (c .before .before .before .before .before .before .before .before .before .before .before .before .before .before .before .args .xs)) (now (c .before .before .before .before .before .before .before .before .before .before .before .before .before .before .before .args .ys)) (coherent (c .before .before .before .before .before .before .before .before .before .before)) (c .before .before .before .before .before .before .before .before .before .if2 .left) (c .before .before .before .before .before .before .before .if3 .left) (c .before .before .before .if4 .left) (rw found at (c .before .if5 .taken)))
+
+returns-6 : tie.Need-returns-6
+returns-6 c = at-end (c .before .before .before .before .before .before .before .before .before .before .before .before .before .before .args .running) (now (c .before .before .before .before .before .before .before .before .before .before .before .before .before .before .args .xs)) (now (c .before .before .before .before .before .before .before .before .before .before .before .before .before .before .args .ys)) (coherent (c .before .before .before .before .before .before .before .before .before)) (c .before .before .before .before .before .before .before .before .if2 .left) (c .before .before .before .before .before .before .if3 .left) (c .before .before .if4 .left) (rw (c .before .first-bad-of-two .ensures) at (c .if5 .left))
+
+pub check-pairs-spec : {M : Type 1} → statement M
+check-pairs-spec =
+    tie.close
+    (tie.spec
+    record-cause-requires
+    returns
+    returns-2
+    rem-if3
+    returns-3
+    div-if4
+    add-if4
+    returns-4
+    first-bad-of-two-requires
+    add-if5
+    coefficient-requires
+    returns-5
+    returns-6)

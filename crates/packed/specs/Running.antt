@@ -1,0 +1,223 @@
+-- "The running record" and demand 3. A record holds the setting and a sum: the total of pairs, one unreduced word, 15 residues.
+--     openPairs s u                 r = total mod n, the pairs of the open batch
+--     residueMost, residuesCause    residues below p, and zero from index 2k-1 on; that one is not
+--     fieldMost, fieldsCause        field j of the word at most r min(j+1, 2k-1-j) (p-1)^2; that one is not
+--     sumCause, recordCause         12 Record: a record that is not coherent
+--     Coherent s u                  coherent, in words: RunningLaws shows that 12 is given exactly where it does not hold
+--     closingOf p q w rs j          (residue + field) mod p; closingAt s u j, of a sum
+--     split s u                     the word is split, its fields are added to the residues modulo p, and the word is zero
+--     withPair, afterPair           one pair: its product is added in the word; as soon as the open batch has n pairs the word is split
+--     afterPairs s u cs             one pair after the other
+--     fedPairs s xs ys              the pairs of two flat lists, k coefficients per polynomial, as packing takes them
+--     pairsCause k m n              9 Shape: the lengths m and n of the flat lists differ, or are no multiple of k
+--     fullCause total pairs         13 Full: the total would pass 1,000,000
+--     pairChecks r xs ys            12, 9, 13, 8; feedChecks, these, then 18
+--     takenSays, closedSays         the numbers that each case of an answer stands for; takenOf, closedOf, the way back
+--     keptBy v new old              the record handed back: as it was on a refusal, else the new one
+--     Freshens, Feeds, Closes       the promises of fresh, feed, close; fresh-once, feed-once, close-once: each allows one result only
+--     Call, Calls r calls z         calls of feed, one after the other, from the record r to z, none refused: what each was given and what it gave
+--     lefts, rights                 all that the calls were given, as two flat lists
+--     sumOf s cs                    what demand 3 says of the record: residues of full batches, unreduced sum of the rest, number of pairs
+use Prim.Native.Nat.{ℕ, _+_, _-_, _*_, _/_, _%_, _^_, _≤_, _<_}
+use mathlib.Core.Path.{_≡_, refl, sym, ap, _∙_}
+use mathlib.Core.Bool.{Bool, false, not, _||_}
+use mathlib.Core.List.{List, [], _∷_, _++_}
+use lib.Dec.{ltb, eqb}
+use lib.ListN.{length, replicate}
+use Rattle.polynomials.specs.Indices.{pick, upto, filled, exceeds}
+use Rattle.polynomials.specs.Lists.{coefficient, Below, Pair, sumOfProducts, batchMost}
+use Rattle.polynomials.specs.Places.{packed, field}
+use Rattle.polynomials.specs.Blocks.{blocks}
+use Rattle.polynomials.specs.Pairs.{pairsOf, fullBatches, openBatch}
+use Rattle.packed.specs.Limits.{mostPairs, residuePlaces}
+use Rattle.packed.specs.Answers.{Answer, answered, refused, Verdict, fine, refuse, refuses, _andThen_, leftBy}
+use Rattle.packed.specs.AnswerLaws.{once}
+use Rattle.packed.specs.SharedAnswers.{shortCause}
+use Rattle.packed.specs.Settings.{settingChecks, base, places, spanOf, checkedSays, check-once}
+use Rattle.packed.specs.Coefficients.{taken, coefficientsCheck}
+use Rattle.packed.specs.Places.{wordCause}
+use Rattle.packed.specs.Overflow.{feedOverflow}
+use Rattle.packed.specs.declared.setting.Setting.{Setting}
+use Rattle.packed.specs.declared.setting.Checked.{Checked}
+use Rattle.packed.specs.declared.running.Sum.{Sum}
+use Rattle.packed.specs.declared.running.Record.{Record}
+use Rattle.packed.specs.declared.running.Begun.{Begun}
+use Rattle.packed.specs.declared.running.Fed.{Fed}
+use Rattle.packed.specs.declared.running.Taken.{Taken}
+use Rattle.packed.specs.declared.running.Taken.the-variants as inTaken
+use Rattle.packed.specs.declared.running.Closed.{Closed}
+use Rattle.packed.specs.declared.running.Closed.the-variants as inClosed
+
+-- ---- 12
+
+abbrev pub openPairs : Setting → Sum → ℕ
+openPairs s u = u .total % s .n
+
+abbrev pub residueMost : Setting → ℕ → ℕ
+residueMost s j = pick (ltb j (places s)) (s .p - 1) 0
+
+abbrev pub residuesCause : Setting → List ℕ → Bool
+residuesCause s rs = exceeds (length rs) (coefficient rs) (residueMost s)
+
+abbrev pub fieldMost : Setting → ℕ → ℕ → ℕ
+fieldMost s r j = batchMost (s .p) (s .k) r j
+
+abbrev pub fieldsCause : Setting → ℕ → ℕ → Bool
+fieldsCause s r w = exceeds (places s) (field (base s) w) (fieldMost s r)
+
+unfoldable pub sumCause : Setting → Sum → Bool
+sumCause s u = ltb mostPairs (u .total) || (residuesCause s (u .residues) || (fieldsCause s (openPairs s u) (u .word) || wordCause s (u .word)))
+
+unfoldable pub recordCause : Record → Bool
+recordCause r = refuses (settingChecks (r .setting)) || sumCause (r .setting) (r .sum)
+
+pub record Coherent (s : Setting) (u : Sum) : Type 0 where
+  pub accepted : settingChecks s ≡ fine
+  pub few : u .total ≤ mostPairs
+  pub residues-below : Below (s .p) (u .residues)
+  pub residues-zero : (j : ℕ) → places s ≤ j → coefficient (u .residues) j ≡ 0
+  pub fields-most : (j : ℕ) → j < places s → field (base s) (u .word) j ≤ fieldMost s (openPairs s u) j
+  pub word-below : u .word < 2 ^ spanOf s
+
+-- ---- pairs
+
+abbrev pub closingOf : ℕ → ℕ → ℕ → List ℕ → ℕ → ℕ
+closingOf p q w rs j = (coefficient rs j + field q w j) % p
+
+abbrev pub closingAt : Setting → Sum → ℕ → ℕ
+closingAt s u = closingOf (s .p) (base s) (u .word) (u .residues)
+
+abbrev pub split : Setting → Sum → Sum
+split s u = record { total = u .total; word = 0; residues = filled (places s) (closingAt s u) (u .residues) }
+
+abbrev pub withPair : Setting → Sum → Pair → Sum
+withPair s u c = record { total = u .total + 1; word = u .word + packed (base s) (c .left) * packed (base s) (c .right); residues = u .residues }
+
+abbrev pub afterPair : Setting → Sum → Pair → Sum
+afterPair s u c =
+    let v : Sum = withPair s u c in
+    pick (eqb (openPairs s v) 0) (split s v) v
+
+unfoldable pub afterPairs : Setting → Sum → List Pair → Sum
+afterPairs s u [] = u
+afterPairs s u (c ∷ cs) = afterPairs s (afterPair s u c) cs
+
+abbrev pub fedPairs : Setting → List ℕ → List ℕ → List Pair
+fedPairs s xs ys = pairsOf (s .k) (taken (s .p) xs) (taken (s .p) ys)
+
+-- ---- checks
+
+abbrev pub pairsCause : ℕ → ℕ → ℕ → Bool
+pairsCause k m n = not (eqb m n) || not (eqb (m % k) 0)
+
+abbrev pub fullCause : ℕ → ℕ → Bool
+fullCause total pairs = ltb mostPairs (total + pairs)
+
+unfoldable pub pairChecks : Record → List ℕ → List ℕ → Verdict
+pairChecks r xs ys =
+    refuse (recordCause r) 12 0
+    andThen refuse (pairsCause (r .setting .k) (length xs) (length ys)) 9 0
+    andThen refuse (fullCause (r .sum .total) (length xs / r .setting .k)) 13 0
+    andThen coefficientsCheck (r .setting .p) xs ys
+
+unfoldable pub feedChecks : Record → List ℕ → List ℕ → Verdict
+feedChecks r xs ys = pairChecks r xs ys andThen refuse (feedOverflow (r .setting) (openPairs (r .setting) (r .sum)) (r .sum .word) xs ys) 18 0
+
+unfoldable pub closeChecks : Record → ℕ → Verdict
+closeChecks r len = refuse (recordCause r) 12 0 andThen refuse (shortCause (places (r .setting)) len) 10 0
+
+-- ---- answers
+
+abbrev pub takenSays : Taken → Answer ℕ
+takenSays (inTaken.Pairs m) = answered m
+takenSays (inTaken.Refused r) = refused (r .number) (r .place)
+
+abbrev pub takenOf : Answer ℕ → Taken
+takenOf (answered m) = inTaken.Pairs m
+takenOf (refused number place) = inTaken.Refused (record { number = number; place = place })
+
+pub taken-back : (r : Taken) → takenOf (takenSays r) ≡ r
+taken-back (inTaken.Pairs m) = refl
+taken-back (inTaken.Refused r) = refl
+
+abbrev pub closedSays : Closed → Answer ℕ
+closedSays (inClosed.Reductions m) = answered m
+closedSays (inClosed.Refused r) = refused (r .number) (r .place)
+
+abbrev pub closedOf : Answer ℕ → Closed
+closedOf (answered m) = inClosed.Reductions m
+closedOf (refused number place) = inClosed.Refused (record { number = number; place = place })
+
+pub closed-back : (r : Closed) → closedOf (closedSays r) ≡ r
+closed-back (inClosed.Reductions m) = refl
+closed-back (inClosed.Refused r) = refl
+
+abbrev pub keptBy : Verdict → Record → Record → Record
+keptBy (answered u) new old = new
+keptBy (refused number place) new old = old
+
+-- ---- fresh
+
+abbrev pub freshSum : Sum
+freshSum = record { total = 0; word = 0; residues = replicate residuePlaces 0 }
+
+abbrev pub recordOf : Setting → Sum → Record
+recordOf s u = record { setting = s; sum = u }
+
+abbrev pub Freshens : Setting → Begun → Type 0
+Freshens s b = (checkedSays (b .answer) ≡ settingChecks s) × (b .running ≡ recordOf s freshSum)
+
+pub fresh-once : (s : Setting) (a b : Begun) → Freshens s a → Freshens s b → a ≡ b
+fresh-once s a b ha hb = ap (λ (r : Record). made r (a .answer)) (ha .1 ∙ sym (hb .1)) ∙ ap (made (b .running)) (check-once s (a .answer) (b .answer) (ha .0) (hb .0))
+  where
+    made : Record → Checked → Begun
+    made r c = record { running = r; answer = c }
+
+-- ---- feed
+
+abbrev pub Feeds : Record → List ℕ → List ℕ → Fed → Type 0
+Feeds r xs ys f =
+    (takenSays (f .answer) ≡ (feedChecks r xs ys andThen answered (length xs / r .setting .k)))
+    × (f .running ≡ keptBy (feedChecks r xs ys) (recordOf (r .setting) (afterPairs (r .setting) (r .sum) (fedPairs (r .setting) xs ys))) r)
+
+pub feed-once : (r : Record) (xs ys : List ℕ) (a b : Fed) → Feeds r xs ys a → Feeds r xs ys b → a ≡ b
+feed-once r xs ys a b ha hb = ap (λ (r : Record). made r (a .answer)) (ha .1 ∙ sym (hb .1)) ∙ ap (made (b .running)) (once takenSays takenOf taken-back (a .answer) (b .answer) _ (ha .0) (hb .0))
+  where
+    made : Record → Taken → Fed
+    made r c = record { running = r; answer = c }
+
+-- ---- close
+
+abbrev pub Closes : Record → List ℕ → Closed → List ℕ → Type 0
+Closes r old a after =
+    (closedSays a ≡ (closeChecks r (length old) andThen answered (blocks (r .setting .n) (r .sum .total))))
+    × (after ≡ leftBy (closeChecks r (length old)) (upto (places (r .setting)) (closingAt (r .setting) (r .sum))) old)
+
+pub close-once : (r : Record) (old : List ℕ) (a b : Closed) (x y : List ℕ) → Closes r old a x → Closes r old b y → (a ≡ b) × (x ≡ y)
+close-once r old a b x y ha hb = (once closedSays closedOf closed-back a b _ (ha .0) (hb .0), ha .1 ∙ sym (hb .1))
+
+-- ---- demand 3
+
+pub record Call : Type 0 where
+  pub left : List ℕ
+  pub right : List ℕ
+  pub gave : Fed
+
+abbrev pub Calls : Record → List Call → Record → Type 0
+Calls r [] z = r ≡ z
+Calls r (c ∷ cs) z = Feeds r (c .left) (c .right) (c .gave) × (refuses (takenSays (c .gave .answer)) ≡ false) × Calls (c .gave .running) cs z
+
+abbrev pub lefts : List Call → List ℕ
+lefts [] = []
+lefts (c ∷ cs) = c .left ++ lefts cs
+
+abbrev pub rights : List Call → List ℕ
+rights [] = []
+rights (c ∷ cs) = c .right ++ rights cs
+
+abbrev pub sumOf : Setting → List Pair → Sum
+sumOf s cs = record {
+  total = length cs;
+  word = packed (base s) (sumOfProducts (openBatch (s .n) cs));
+  residues = upto residuePlaces (λ j. coefficient (sumOfProducts (fullBatches (s .n) cs)) j % s .p);
+}

@@ -1,0 +1,176 @@
+-- What passing the checks of feed and close says, and that 18 never holds. Assumes nothing.
+--     pairs-checked, pairs-pass     nothing is refused up to 8 exactly where the lists can be fed
+--     never-feeds-over              no batch of a coherent record reaches 2^64
+--     feed-refused, feed-fine       so feed refuses what is refused up to 8, and nothing else
+--     feed-nothing, feed-taken      what keeps feed's promise: the record as it was beside a refusal, and the sum after all pairs
+--     feed-told                     a feed that was not refused: the lists could be fed, what it answered, and the record after it
+--     close-checked                 what passing the checks of close says
+--     close-nothing, close-written  what keeps its promise: the list as it was beside a refusal, and the list filled
+use Prim.Native.Nat.{ℕ, zero, suc, _+_, _-_, _/_, _%_, _^_, _≤_, _<_, min}
+use mathlib.Core.Path.{_≡_, refl}
+use mathlib.Core.Bool.{Bool, true, false, not, true≢false}
+use mathlib.Core.List.{List, _∷_}
+use mathlib.Mathlib.Data.Bool.Basic.{or-eq-false-eq-eq-false-and-eq-false}
+use native.Mathlib.Nat.{mod-lt}
+use native.Mathlib.Omega.{arith}
+use lib.Dec.{eqb}
+use lib.ListN.{length}
+use borrow.Author.Tests.{eqb-true, eq-eqb, ltb-false, le-ltb, lt-leb}
+use Rattle.polynomials.specs.Indices.{filled}
+use Rattle.polynomials.specs.IndexLaws.{length-upto, upto-at, first-none}
+use Rattle.polynomials.specs.Lists.{coefficient, Pairs}
+use Rattle.polynomials.specs.Blocks.{blocks, block, blockAt, pairsUpto, dot}
+use Rattle.polynomials.specs.BlockLaws.{block-operand, length-pairs, pairs-operands, words-of-pairs}
+use Rattle.packed.specs.Limits.{mostPairs, wordBits}
+use Rattle.packed.specs.Answers.{answered, refused, Verdict, fine, refuses}
+use Rattle.packed.specs.AnswerLaws.{once, passed, passed-last}
+use Rattle.packed.specs.SharedAnswers.{shortCause}
+use Rattle.packed.specs.Settings.{base, places}
+use Rattle.packed.specs.Coefficients.{tooLarge, firstBad, taken, taken-below, coefficients-check}
+use Rattle.packed.specs.Bounds.{bounds, batch-sum}
+use Rattle.packed.specs.Overflow.{batchSums, feedOverflow}
+use Rattle.packed.specs.Running.{openPairs, recordCause, Coherent, pairsCause, fullCause, pairChecks, feedChecks, closeChecks, takenSays, takenOf, taken-back, recordOf, Feeds, closingAt, Closes}
+use Rattle.packed.specs.RunningLaws.{coherent-is, word-room}
+use Rattle.packed.specs.Feeding.{Feeding, fedSum}
+use Rattle.packed.specs.declared.refusals.Refusal.{Refusal}
+use Rattle.packed.specs.declared.setting.Setting.{Setting}
+use Rattle.packed.specs.declared.running.Sum.{Sum}
+use Rattle.packed.specs.declared.running.Record.{Record}
+use Rattle.packed.specs.declared.running.Fed.{Fed}
+use Rattle.packed.specs.declared.running.Taken.{Taken}
+use Rattle.packed.specs.declared.running.Taken.the-variants as inTaken
+use Rattle.packed.specs.declared.running.Closed.the-variants as inClosed
+
+not-not : (b : Bool) → not b ≡ false → b ≡ true
+not-not true e = refl
+not-not false e = absurd (true≢false e)
+
+pub pairs-checked : (r : Record) (xs ys : List ℕ) → pairChecks r xs ys ≡ fine → Feeding (r .setting) (r .sum) xs ys
+unfolding pairChecks
+pairs-checked r xs ys e =
+    let s = r .setting in
+    let a = passed (recordCause r) 12 0 _ tt e in
+    let b = passed (pairsCause (s .k) (length xs) (length ys)) 9 0 _ tt (a .1) in
+    let c = passed (fullCause (r .sum .total) (length xs / s .k)) 13 0 _ tt (b .1) in
+    let h = coherent-is r .0 (a .0) in
+    let shape = or-eq-false-eq-eq-false-and-eq-false (not (eqb (length xs) (length ys))) (not (eqb (length xs % s .k) 0)) .0 (b .0) in
+    let below = coefficients-check (s .p) xs ys (omega (arith, bounds s (h .accepted) .range .choice .p-low)) .0 (c .1) in
+    record {
+      coherent = h;
+      same-size = eqb-true (length xs) (length ys) (not-not (eqb (length xs) (length ys)) (shape .0));
+      whole = eqb-true (length xs % s .k) 0 (not-not (eqb (length xs % s .k) 0) (shape .1));
+      room = ltb-false mostPairs (r .sum .total + length xs / s .k) (c .0);
+      left-below = below .0;
+      right-below = below .1;
+    }
+
+pub pairs-pass : (r : Record) (xs ys : List ℕ) → Feeding (r .setting) (r .sum) xs ys → pairChecks r xs ys ≡ fine
+unfolding pairChecks
+pairs-pass r xs ys f =
+    let s = r .setting in
+    rw (
+      coherent-is r .1 (f .coherent),
+      eq-eqb (length xs) (length ys) (f .same-size),
+      eq-eqb (length xs % s .k) 0 (f .whole),
+      le-ltb mostPairs (r .sum .total + length xs / s .k) (f .room),
+      coefficients-check (s .p) xs ys (omega (arith, bounds s (f .coherent .accepted) .range .choice .p-low)) .1 (f .left-below, f .right-below),
+    )
+
+-- ---- 18
+
+module _ (s : Setting) (u : Sum) (xs ys : List ℕ) (f : Feeding s u xs ys) where
+  abbrev m : ℕ
+  m = length xs / s .k
+
+  abbrev x : ℕ → ℕ
+  x = blockAt (base s) (s .k) (taken (s .p) xs)
+
+  abbrev y : ℕ → ℕ
+  y = blockAt (base s) (s .k) (taken (s .p) ys)
+
+  abbrev left : ℕ → ℕ → List ℕ
+  left i r = block (s .k) (taken (s .p) xs) (i + r)
+
+  abbrev right : ℕ → ℕ → List ℕ
+  right i r = block (s .k) (taken (s .p) ys) (i + r)
+
+  run-pairs : (i n : ℕ) → Pairs (s .p) (s .k) (pairsUpto n (left i) (right i))
+  run-pairs i n =
+      pairs-operands (s .p) (s .k) n (left i) (right i)
+      (λ r. block-operand (s .p) (s .k) (taken (s .p) xs) (i + r) (rw (taken-below (s .p) xs (f .left-below)) (f .left-below)))
+      (λ r. block-operand (s .p) (s .k) (taken (s .p) ys) (i + r) (rw (taken-below (s .p) ys (f .right-below)) (f .right-below)))
+
+  run-fits : (i n : ℕ) → n ≤ s .n → dot x y i i n < 2 ^ 64
+  run-fits i n few = rw (← words-of-pairs (base s) n (left i) (right i)) (batch-sum s (bounds s (f .coherent .accepted)) (pairsUpto n (left i) (right i)) (run-pairs i n) (rw length-pairs few))
+
+  open-fits : u .word + dot x y 0 0 (min (s .n - openPairs s u) m) < 2 ^ 64
+  open-fits =
+      let n : ℕ = min (s .n - openPairs s u) m in
+      rw (← words-of-pairs (base s) n (left 0) (right 0))
+      (word-room s u (f .coherent) (pairsUpto n (left 0) (right 0)) (run-pairs 0 n) (rw length-pairs (omega (arith, mod-lt (u .total) (bounds s (f .coherent .accepted) .range .choice .n-low)))))
+
+  pub never-feeds-over : feedOverflow s (openPairs s u) (u .word) xs ys ≡ false
+  unfolding feedOverflow
+  never-feeds-over =
+      le-ltb (firstBad (2 ^ wordBits) sums) (length sums)
+      (first-none (tooLarge (2 ^ wordBits) sums) (length sums) .1 (λ i l. lt-leb (2 ^ wordBits) (coefficient sums i) (at i l)))
+    where
+      sums : List ℕ
+      sums = (u .word + dot x y 0 0 (min (s .n - openPairs s u) m)) ∷ batchSums (s .n) m x y
+
+      at : (i : ℕ) → i < length sums → coefficient sums i < 2 ^ 64
+      at zero l = open-fits
+      at (suc i) l = rw (upto-at m (λ i. dot x y i i (min (s .n) (m - i))) i (inside l)) (run-fits i (min (s .n) (m - i)) (omega arith))
+        where
+          inside : suc i < suc (length (batchSums (s .n) m x y)) → i < m
+          inside h = omega (arith, length-upto m (λ i. dot x y i i (min (s .n) (m - i))))
+
+pub feed-refused : (r : Record) (xs ys : List ℕ) (number place : ℕ) → pairChecks r xs ys ≡ refused number place → feedChecks r xs ys ≡ refused number place
+unfolding feedChecks
+feed-refused r xs ys number place e = rw e
+
+pub feed-fine : (r : Record) (xs ys : List ℕ) → pairChecks r xs ys ≡ fine → feedChecks r xs ys ≡ fine
+unfolding feedChecks
+feed-fine r xs ys e = rw (e, never-feeds-over (r .setting) (r .sum) xs ys (pairs-checked r xs ys e))
+
+pub feed-nothing : (r : Record) (xs ys : List ℕ) (why : Refusal) → pairChecks r xs ys ≡ refused (why .number) (why .place) → Feeds r xs ys (record { running = r; answer = inTaken.Refused why })
+feed-nothing r xs ys why e = let all = feed-refused r xs ys (why .number) (why .place) e in (rw all, rw all)
+
+pub feed-taken : (r : Record) (xs ys : List ℕ) (u : Sum) → pairChecks r xs ys ≡ fine → u ≡ fedSum (r .setting) (r .sum) xs ys
+    → Feeds r xs ys (record { running = recordOf (r .setting) u; answer = inTaken.Pairs (length xs / r .setting .k) })
+feed-taken r xs ys u e is = let all = feed-fine r xs ys e in (rw all, rw (all, is))
+
+taken-only : (a : Taken) (m : ℕ) → takenSays a ≡ answered m → a ≡ inTaken.Pairs m
+taken-only a m e = once takenSays takenOf taken-back a (inTaken.Pairs m) (answered m) e refl
+
+pub record Told (r : Record) (xs ys : List ℕ) (f : Fed) : Type 0 where
+  pub could : Feeding (r .setting) (r .sum) xs ys
+  pub took : f .answer ≡ inTaken.Pairs (length xs / r .setting .k)
+  pub after : f .running ≡ recordOf (r .setting) (fedSum (r .setting) (r .sum) xs ys)
+
+pub feed-told : (r : Record) (xs ys : List ℕ) (f : Fed) → Feeds r xs ys f → refuses (takenSays (f .answer)) ≡ false → Told r xs ys f
+feed-told r xs ys f h took = go (pairChecks r xs ys) refl
+  where
+    go : (v : Verdict) → pairChecks r xs ys ≡ v → Told r xs ys f
+    go (answered w) e =
+        record {
+          could = pairs-checked r xs ys e;
+          took = taken-only (f .answer) (length xs / r .setting .k) (rw (feed-fine r xs ys e) at (h .0));
+          after = rw (feed-fine r xs ys e) at (h .1);
+        }
+    go (refused number place) e =
+        let said : takenSays (f .answer) ≡ refused number place = rw (feed-refused r xs ys number place e) at (h .0) in
+        absurd (true≢false (rw said at took))
+
+pub close-checked : (r : Record) (len : ℕ) → closeChecks r len ≡ fine → Coherent (r .setting) (r .sum) × (places (r .setting) ≤ len)
+unfolding closeChecks
+close-checked r len e =
+    let a = passed (recordCause r) 12 0 _ tt e in
+    (coherent-is r .0 (a .0), ltb-false len (places (r .setting)) (passed-last (shortCause (places (r .setting)) len) 10 0 (a .1)))
+
+pub close-nothing : (r : Record) (old : List ℕ) (why : Refusal) → closeChecks r (length old) ≡ refused (why .number) (why .place) → Closes r old (inClosed.Refused why) old
+close-nothing r old why e = (rw e, rw e)
+
+pub close-written : (r : Record) (old after : List ℕ) → closeChecks r (length old) ≡ fine → after ≡ filled (places (r .setting)) (closingAt (r .setting) (r .sum)) old
+    → Closes r old (inClosed.Reductions (blocks (r .setting .n) (r .sum .total))) after
+close-written r old after e h = (rw e, rw (e, length-upto (places (r .setting)) (closingAt (r .setting) (r .sum))) h)
