@@ -4,6 +4,10 @@ use libc::STDOUT_FILENO;
 use packed::answers::Packed;
 use packed::answers::Wrote;
 use packed::refusals::Refusal;
+use packed::running::Closed;
+use packed::running::Record;
+use packed::running::Taken;
+use packed::setting::Checked;
 
 pub fn text(piece: &[u8])
     ensures { λ r. ⌜ PrintsList (now (piece .entry)) (now (piece .exit)) r ⌝ }
@@ -66,6 +70,59 @@ pub fn wrote(answer: Wrote)
         Wrote::Refused(r) => refusal(r),
     }
     text(b":");
+}
+
+// A record follows, with `record`.
+pub fn checked(answer: Checked)
+    ensures { λ r. ⌜ Prints r ⌝ }
+{
+    match answer {
+        Checked::Accepted => text(b": accepted"),
+        Checked::Refused(r) => refusal(r),
+    }
+    text(b":");
+}
+
+pub fn taken(answer: Taken)
+    ensures { λ r. ⌜ Prints r ⌝ }
+{
+    match answer {
+        Taken::Pairs(m) => {
+            text(b": took");
+            number(m as u64);
+        }
+        Taken::Refused(r) => refusal(r),
+    }
+    text(b":");
+}
+
+// The lent list follows, with `coefficients`.
+pub fn closed(answer: Closed)
+    ensures { λ r. ⌜ Prints r ⌝ }
+{
+    match answer {
+        Closed::Reductions(m) => {
+            text(b": reductions");
+            number(m);
+        }
+        Closed::Refused(r) => refusal(r),
+    }
+    text(b":");
+}
+
+pub fn record(running: Record)
+    ensures { λ r. ⌜ Prints r ⌝ }
+{
+    let s = running.setting;
+    let sum = running.sum;
+    let residues = sum.residues;
+    setting(s.p, s.k, s.t, s.n);
+    text(b" total");
+    number(sum.total);
+    text(b" word");
+    number(sum.word);
+    text(b" residues");
+    coefficients(&residues);
 }
 
 pub fn bytes(xs: &[u8])

@@ -8,12 +8,13 @@
 --                               they pass exactly where every coefficient is below p
 --     NoneAbove most xs         no coefficient is above most
 --     taken p xs                what packing takes of a list: the list itself; takenOne p x, of one coefficient
---     taken-length, taken-at, taken-below, taken-operand
---                               it has the list's length; it is taken one by one; of a list below p it is the list, and so an operand
+--     taken-length, taken-at, taken-join, taken-below, taken-operand
+--                               it has the list's length; it is taken one by one, and of joined lists from each; of a list below p it is the
+--                               list, and so an operand
 use Prim.Native.Nat.{ℕ, _+_, _≤_, _<_}
 use mathlib.Core.Path.{_≡_, refl}
 use mathlib.Core.Bool.{Bool, true, false}
-use mathlib.Core.List.{List}
+use mathlib.Core.List.{List, _++_}
 use mathlib.Core.Logic.{_↔_}
 use native.Mathlib.Decide.{decLt}
 use native.Mathlib.Omega.{arith}
@@ -90,6 +91,10 @@ taken-length p xs = refl
 pub taken-at : (p : ℕ) (xs : List ℕ) (i : ℕ) → coefficient (taken p xs) i ≡ takenOne p (coefficient xs i)
 unfolding taken takenOne
 taken-at p xs i = refl
+
+pub taken-join : (p : ℕ) (xs ys : List ℕ) → taken p (xs ++ ys) ≡ taken p xs ++ taken p ys
+unfolding taken
+taken-join p xs ys = refl
 
 pub taken-below : (p : ℕ) (xs : List ℕ) → Below p xs → taken p xs ≡ xs
 unfolding taken

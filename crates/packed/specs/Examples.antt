@@ -4,19 +4,23 @@
 --     written            what it prints of a call that fills a list or a buffer: its elements
 --     starred            the table
 --     starred-agree      every row's two sides are the same, by computing the left ones
-use Prim.Native.Nat.{ℕ, _*_}
+use Prim.Native.Nat.{ℕ, zero, suc, _*_}
 use mathlib.Core.Path.{_≡_, refl}
 use mathlib.Core.List.{List, [], _∷_, map}
-use lib.ListN.{length, replicate}
+use lib.ListN.{length, replicate, take}
 use Rattle.polynomials.specs.Indices.{upto, first}
 use Rattle.polynomials.specs.Places.{fields, shifted}
-use Rattle.packed.specs.Answers.{Answer, Verdict, numbers, wrote, leftBy}
+use Rattle.polynomials.specs.Blocks.{blocks}
+use Rattle.packed.specs.Answers.{Answer, answered, Verdict, _andThen_, numbers, wrote, leftBy}
 use Rattle.packed.specs.Settings.{base, places, settingChecks}
 use Rattle.packed.specs.Choices.{settingOf, escapes, smallestWidth, noneCause, chooseAnswer}
 use Rattle.packed.specs.Coefficients.{taken}
 use Rattle.packed.specs.Places.{wordChecks, placesChecks, packAnswer, reduceAnswer}
 use Rattle.packed.specs.Tables.{table, tableChecks, buildChecks}
+use Rattle.packed.specs.Overflow.{feedOverflow}
+use Rattle.packed.specs.Running.{sumCause, recordCause, closingAt, afterPairs, fedPairs, pairChecks, feedChecks, closeChecks, keptBy, freshSum, recordOf}
 use Rattle.packed.specs.declared.setting.Setting.{Setting}
+use Rattle.packed.specs.declared.running.Record.{Record}
 
 pub record Row : Type 0 where
   pub gives : List ℕ
@@ -62,6 +66,29 @@ shifting w prints = writing (placesChecks small w) (upto (places small) (shifted
 building : List ℕ → Row
 building prints = writing (buildChecks small) (table (small .p) (small .t)) prints
 
+-- p = 3, k = 2, t = 5, n = 2, and the pair (1, 2), (2, 2) fed m times
+fedTimes : ℕ → Record
+fedTimes zero = recordOf (settingOf 3 2 5 2) freshSum
+fedTimes (suc m) =
+    let r : Record = fedTimes m in
+    keptBy (feedChecks r (1 ∷ 2 ∷ []) (2 ∷ 2 ∷ [])) (recordOf (r .setting) (afterPairs (r .setting) (r .sum) (fedPairs (r .setting) (1 ∷ 2 ∷ []) (2 ∷ 2 ∷ [])))) r
+
+wordAfter : ℕ → ℕ → Row
+wordAfter m prints = record { gives = fedTimes m .sum .word ∷ []; prints = prints ∷ [] }
+
+residuesAfter : ℕ → List ℕ → Row
+residuesAfter m prints = record { gives = take (length prints) (fedTimes m .sum .residues); prints = prints }
+
+-- the reductions, and the coefficients into a list of three
+closingAfter : ℕ → ℕ → List ℕ → Row
+closingAfter m reductions prints =
+    let r : Record = fedTimes m in
+    let checks : Verdict = closeChecks r 3 in
+    record {
+      gives = numbers (λ v. v ∷ leftBy checks (upto (places (r .setting)) (closingAt (r .setting) (r .sum))) (replicate 3 9)) (checks andThen answered (blocks (r .setting .n) (r .sum .total)));
+      prints = 0 ∷ 0 ∷ reductions ∷ prints;
+    }
+
 pub starred : List Row
 starred =
     choosing 3 4 31 (value 9)
@@ -80,8 +107,14 @@ starred =
     ∷ reducing 1122 (value 258)
     ∷ unpacking 258 (written (2 ∷ 0 ∷ 1 ∷ []))
     ∷ building (written (0 ∷ 0 ∷ 0 ∷ 13 ∷ 1 ∷ 0 ∷ 3 ∷ 4 ∷ 0 ∷ 1 ∷ 2 ∷ 2 ∷ 0 ∷ 1 ∷ 1 ∷ 2 ∷ 0 ∷ []))
+    ∷ wordAfter 1 4290
+    ∷ wordAfter 2 0
+    ∷ residuesAfter 2 (1 ∷ 0 ∷ 2 ∷ [])
+    ∷ wordAfter 3 4290
+    ∷ residuesAfter 3 (1 ∷ 0 ∷ 2 ∷ [])
+    ∷ closingAfter 3 2 (0 ∷ 0 ∷ 0 ∷ [])
     ∷ []
 
 pub starred-agree : map (λ (r : Row). r .gives) starred ≡ map (λ (r : Row). r .prints) starred
-unfolding starred value none written answering choosing small packing reducing writing unpacking shifting building chooseAnswer noneCause smallestWidth escapes first settingChecks wordChecks placesChecks packAnswer reduceAnswer taken table tableChecks buildChecks
+unfolding starred value none written answering choosing small packing reducing writing unpacking shifting building chooseAnswer noneCause smallestWidth escapes first settingChecks wordChecks placesChecks packAnswer reduceAnswer taken table tableChecks buildChecks fedTimes wordAfter residuesAfter closingAfter sumCause recordCause afterPairs feedOverflow pairChecks feedChecks closeChecks
 starred-agree = refl

@@ -30,4 +30,5 @@ pub mod ProductLaws
 pub mod RunningLaws
 pub mod FeedLaws
 pub mod RunningChecks
+pub mod DemandThree
 pub mod Examples

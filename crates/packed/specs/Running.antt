@@ -17,6 +17,8 @@
 --     Freshens, Feeds, Closes       the promises of fresh, feed, close; fresh-once, feed-once, close-once: each allows one result only
 --     Call, Calls r calls z         calls of feed, one after the other, from the record r to z, none refused: what each was given and what it gave
 --     lefts, rights                 all that the calls were given, as two flat lists
+--     schoolbook s cs               the schoolbook sum of the pairs' products modulo p, its 2k-1 coefficients
+--     ClosesTo s cs old a after     what demand 3 says of closing: that sum, and pairs / n, rounded up, as the number of reductions; 10 alone can refuse
 --     sumOf s cs                    what demand 3 says of the record: residues of full batches, unreduced sum of the rest, number of pairs
 use Prim.Native.Nat.{ℕ, _+_, _-_, _*_, _/_, _%_, _^_, _≤_, _<_}
 use mathlib.Core.Path.{_≡_, refl, sym, ap, _∙_}
@@ -214,6 +216,14 @@ lefts (c ∷ cs) = c .left ++ lefts cs
 abbrev pub rights : List Call → List ℕ
 rights [] = []
 rights (c ∷ cs) = c .right ++ rights cs
+
+abbrev pub schoolbook : Setting → List Pair → List ℕ
+schoolbook s cs = upto (places s) (λ j. coefficient (sumOfProducts cs) j % s .p)
+
+abbrev pub ClosesTo : Setting → List Pair → List ℕ → Closed → List ℕ → Type 0
+ClosesTo s cs old a after =
+    let short : Verdict = refuse (shortCause (places s) (length old)) 10 0 in
+    (closedSays a ≡ (short andThen answered (blocks (s .n) (length cs)))) × (after ≡ leftBy short (schoolbook s cs) old)
 
 abbrev pub sumOf : Setting → List Pair → Sum
 sumOf s cs = record {

@@ -4,7 +4,7 @@
 --     feed-refused, feed-fine       so feed refuses what is refused up to 8, and nothing else
 --     feed-nothing, feed-taken      what keeps feed's promise: the record as it was beside a refusal, and the sum after all pairs
 --     feed-told                     a feed that was not refused: the lists could be fed, what it answered, and the record after it
---     close-checked                 what passing the checks of close says
+--     close-checked, close-pass     what passing the checks of close says; what is left of them for a coherent record
 --     close-nothing, close-written  what keeps its promise: the list as it was beside a refusal, and the list filled
 use Prim.Native.Nat.{ℕ, zero, suc, _+_, _-_, _/_, _%_, _^_, _≤_, _<_, min}
 use mathlib.Core.Path.{_≡_, refl}
@@ -22,7 +22,7 @@ use Rattle.polynomials.specs.Lists.{coefficient, Pairs}
 use Rattle.polynomials.specs.Blocks.{blocks, block, blockAt, pairsUpto, dot}
 use Rattle.polynomials.specs.BlockLaws.{block-operand, length-pairs, pairs-operands, words-of-pairs}
 use Rattle.packed.specs.Limits.{mostPairs, wordBits}
-use Rattle.packed.specs.Answers.{answered, refused, Verdict, fine, refuses}
+use Rattle.packed.specs.Answers.{answered, refused, Verdict, fine, refuses, refuse}
 use Rattle.packed.specs.AnswerLaws.{once, passed, passed-last}
 use Rattle.packed.specs.SharedAnswers.{shortCause}
 use Rattle.packed.specs.Settings.{base, places}
@@ -167,6 +167,10 @@ unfolding closeChecks
 close-checked r len e =
     let a = passed (recordCause r) 12 0 _ tt e in
     (coherent-is r .0 (a .0), ltb-false len (places (r .setting)) (passed-last (shortCause (places (r .setting)) len) 10 0 (a .1)))
+
+pub close-pass : (r : Record) (len : ℕ) → Coherent (r .setting) (r .sum) → closeChecks r len ≡ refuse (shortCause (places (r .setting)) len) 10 0
+unfolding closeChecks
+close-pass r len h = rw (coherent-is r .1 h)
 
 pub close-nothing : (r : Record) (old : List ℕ) (why : Refusal) → closeChecks r (length old) ≡ refused (why .number) (why .place) → Closes r old (inClosed.Refused why) old
 close-nothing r old why e = (rw e, rw e)

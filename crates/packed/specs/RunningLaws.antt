@@ -5,6 +5,7 @@
 --     open-fields          so it is
 --     field-more           adding the products of pairs, up to n in the batch, adds their coefficients field by field
 --     word-room            and stays below 2^64
+--     after-one            one pair, where it fills the batch and where it does not
 --     batch-after          pairs that the open batch takes, one after the other, are added up in the word, and at n pairs it is split
 --     after-join           some pairs and then more
 --     after-total          the total counts them
@@ -174,7 +175,7 @@ after-join s u (c ∷ cs) ds = after-join s (afterPair s u c) cs ds
 abbrev pub withPairs : Setting → Sum → ℕ → ℕ → Sum
 withPairs s u m w = record { total = u .total + m; word = u .word + w; residues = u .residues }
 
-after-one : (s : Setting) (u : Sum) (c : Pair) → 0 < s .n → (openPairs s u + 1 ≡ s .n → afterPair s u c ≡ split s (withPair s u c)) × (openPairs s u + 1 < s .n → afterPair s u c ≡ withPair s u c)
+pub after-one : (s : Setting) (u : Sum) (c : Pair) → 0 < s .n → (openPairs s u + 1 ≡ s .n → afterPair s u c ≡ split s (withPair s u c)) × (openPairs s u + 1 < s .n → afterPair s u c ≡ withPair s u c)
 after-one s u c hn = (λ e. rw (remainder-full (u .total) (s .n) hn e), λ l. rw (remainder-next (u .total) (s .n) hn l, ne-eqb (openPairs s u + 1) 0 (λ e. omega arith)))
 
 batch-one : (s : Setting) (u : Sum) (c : Pair) → withPairs s u 1 (sumOfWords (base s) (c ∷ [])) ≡ withPair s u c

@@ -6,6 +6,7 @@
 --     coefficient-zeros                    zeros at the high end change no coefficient
 --     length-part, coefficient-part, part-below
 --                                          a part: its length, what stands in it, and that a bound stays
+--     below-join                           joined lists below c are below c
 --     filled-at, filled-after, length-filled
 --                                          a filled list: what was written, what was there, and its length
 --     length-LIST, coefficient-LIST        of a sum, a scaled list, a product, residues, each under that name
@@ -51,6 +52,13 @@ part-below c i end xs hc h r = go (decLt r (end - i))
     go : Dec (r < end - i) → coefficient (part i end xs) r < c
     go (yes l) = rw (coefficient-part i end xs r l) (h (i + r))
     go (no l) = rw (coefficient-past (part i end xs) r (simp length-take (omega arith))) hc
+
+pub below-join : (c : ℕ) (xs ys : List ℕ) → Below c xs → Below c ys → Below c (xs ++ ys)
+below-join c xs ys hx hy j = go (decLt j (length xs))
+  where
+    go : Dec (j < length xs) → coefficient (xs ++ ys) j < c
+    go (yes l) = rw (List·getD-append xs ys 0 j l) (hx j)
+    go (no l) = rw (coefficient-after xs ys j (omega arith)) (hy (j - length xs))
 
 -- a filled list: what was written, what was there, and its length
 pub filled-at : (m : ℕ) (f : ℕ → ℕ) (old : List ℕ) (i : ℕ) → i < m → coefficient (filled m f old) i ≡ f i
