@@ -35,7 +35,8 @@ use Rattle.packed.specs.AnswerLaws.{once}
 use Rattle.packed.specs.Settings.{settingChecks, base, places, spanOf}
 use Rattle.packed.specs.Coefficients.{taken, taken-below, taken-length, taken-join}
 use Rattle.packed.specs.Bounds.{Bounds, bounds}
-use Rattle.packed.specs.Running.{Coherent, closingAt, split, withPair, afterPair, afterPairs, fedPairs, pairChecks, closeChecks, takenSays, freshSum, recordOf, Freshens, Feeds, feed-once, closedSays, closedOf, closed-back, Closes, Call, Calls, lefts, rights, schoolbook, ClosesTo, sumOf}
+use Rattle.packed.specs.Running.{Coherent, closingAt, split, withPair, afterPair, afterPairs, fedPairs, pairChecks, closeChecks, takenSays, freshSum, recordOf, Freshens, Feeds, feed-once, closedSays, closedOf, closed-back, Closes}
+use Rattle.packed.specs.Calls.{Call, Calls, lefts, rights, schoolbook, ClosesTo, sumOf}
 use Rattle.packed.specs.RunningLaws.{after-one, after-join, after-total, coherent-after}
 use Rattle.packed.specs.Feeding.{Feeding, fedSum}
 use Rattle.packed.specs.RunningChecks.{pairs-checked, pairs-pass, feed-refused, feed-fine, feed-taken, Told, feed-told, close-pass}

@@ -2,6 +2,7 @@
 --     Row                a row of the table, both sides in numbers
 --     value, none        what the document prints: a width or a word; "None", which is refusal 7
 --     written            what it prints of a call that fills a list or a buffer: its elements
+--     fedTimes           a record fed one pair some times; wordAfter, residuesAfter, closingAfter, what it prints of it
 --     starred            the table
 --     starred-agree      every row's two sides are the same, by computing the left ones
 use Prim.Native.Nat.{ℕ, zero, suc, _*_}

@@ -2,9 +2,10 @@
 --     multiplying                 the pairs of an open batch can be multiplied and added up in its word
 --     batch-full, batch-open      the sum after them, where the batch is full and where it is not
 --     soFar s u xs ys i           the sum after the first i pairs
---     FedSoFar s u xs ys v held i      that v is it, and that its open batch holds held pairs
---     fed-none, fed-batch, fed-more, fed-all
---                                 before the first; the next batch; after it; after all of them
+--     FedSoFar s u xs ys v held i
+--                                 that v is it, and that its open batch holds held pairs
+--     fed-none, fed-batch, fed-more, fed-further, fed-all
+--                                 before the first; the next batch; after it; that it has a pair; after all of them
 use Prim.Native.Nat.{ℕ, _+_, _-_, _*_, _/_, _%_, _^_, _≤_, _<_, min}
 use mathlib.Core.Path.{_≡_, refl, sym, ap, _∙_}
 use mathlib.Core.List.{List}
@@ -33,7 +34,7 @@ taken-low p xs h = rw (taken-below p xs h) h
 
 -- ---- a batch
 
-module _ (s : Setting) (u : Sum) (held : ℕ) (xs ys : List ℕ) (i m : ℕ) (pre : OpenBatch s u held xs ys i m) where
+module _ {s : Setting} {u : Sum} {held : ℕ} {xs ys : List ℕ} {i m : ℕ} (pre : OpenBatch s u held xs ys i m) where
   bounded : Bounds s
   bounded = bounds s (pre .coherent .accepted)
 
@@ -71,7 +72,7 @@ module _ (s : Setting) (u : Sum) (held : ℕ) (xs ys : List ℕ) (i m : ℕ) (pr
     total = rw words at (word-room s u (pre .coherent) cs operands few);
   }
 
-  module _ (w : ℕ) (is : w ≡ u .word + products (s .p) (s .t) (s .k) xs ys i m) where
+  module _ {w : ℕ} (is : w ≡ u .word + products (s .p) (s .t) (s .k) xs ys i m) where
     abbrev added : Sum
     added = record { total = u .total + m; word = w; residues = u .residues }
 
@@ -98,7 +99,7 @@ pub record FedSoFar (s : Setting) (u : Sum) (xs ys : List ℕ) (v : Sum) (held i
   pub here : v ≡ soFar s u xs ys i
   pub pairs : held ≡ openPairs s v
 
-module _ (s : Setting) (u : Sum) (xs ys : List ℕ) (pre : Feeding s u xs ys) where
+module _ {s : Setting} {u : Sum} {xs ys : List ℕ} (pre : Feeding s u xs ys) where
   b : Bounds s
   b = bounds s (pre .coherent .accepted)
 
@@ -109,7 +110,7 @@ module _ (s : Setting) (u : Sum) (xs ys : List ℕ) (pre : Feeding s u xs ys) wh
   unfolding afterPairs
   fed-none = record { most = omega arith; here = refl; pairs = refl }
 
-  module _ (v : Sum) (held i m : ℕ) (fed : FedSoFar s u xs ys v held i) (more : i < length xs / s .k) (take : m ≡ min (s .n - held) (length xs / s .k - i)) where
+  module _ {v : Sum} {held i m : ℕ} (fed : FedSoFar s u xs ys v held i) (more : i < length xs / s .k) (take : m ≡ min (s .n - held) (length xs / s .k - i)) where
     abbrev done : List Pair
     done = pairsUpto i (block (s .k) (taken (s .p) xs)) (block (s .k) (taken (s .p) ys))
 
@@ -150,8 +151,8 @@ module _ (s : Setting) (u : Sum) (xs ys : List ℕ) (pre : Feeding s u xs ys) wh
       right-room = omega (arith, reach, pre .same-size);
     }
 
-    pub fed-more : (w : Sum) (next : ℕ) → w ≡ batchSum s v xs ys i m → next ≡ (held + m) % s .n → FedSoFar s u xs ys w next (i + m)
-    fed-more w next is e = record {
+    pub fed-more : {w : Sum} {next : ℕ} → w ≡ batchSum s v xs ys i m → next ≡ (held + m) % s .n → FedSoFar s u xs ys w next (i + m)
+    fed-more {w} is e = record {
       most = inside;
       here =
           is
@@ -165,7 +166,7 @@ module _ (s : Setting) (u : Sum) (xs ys : List ℕ) (pre : Feeding s u xs ys) wh
     pub fed-further : i < i + m
     fed-further = omega (arith, open-few)
 
-  pub fed-all : (v : Sum) (held i : ℕ) → FedSoFar s u xs ys v held i → length xs / s .k ≤ i → v ≡ fedSum s u xs ys
-  fed-all v held i fed through =
+  pub fed-all : {v : Sum} {held i : ℕ} → FedSoFar s u xs ys v held i → length xs / s .k ≤ i → v ≡ fedSum s u xs ys
+  fed-all {i = i} fed through =
       let all : i ≡ length (taken (s .p) xs) / s .k = omega (arith, fed .most, ap (λ (n : ℕ). n / s .k) (taken-length (s .p) xs)) in
       fed .here ∙ ap (soFar s u xs ys) all

@@ -12,6 +12,7 @@ pub mod Tables
 pub mod Overflow
 pub mod Products
 pub mod Running
+pub mod Calls
 pub mod Bounds
 pub mod BatchLaws
 pub mod Gathering

@@ -1,4 +1,4 @@
--- "The running record" and demand 3. A record holds the setting and a sum: the total of pairs, one unreduced word, 15 residues.
+-- "The running record": fresh, feed, close. A record holds the setting and a sum: the total of pairs, one unreduced word, 15 residues.
 --     openPairs s u                 r = total mod n, the pairs of the open batch
 --     residueMost, residuesCause    residues below p, and zero from index 2k-1 on; that one is not
 --     fieldMost, fieldsCause        field j of the word at most r min(j+1, 2k-1-j) (p-1)^2; that one is not
@@ -12,25 +12,22 @@
 --     pairsCause k m n              9 Shape: the lengths m and n of the flat lists differ, or are no multiple of k
 --     fullCause total pairs         13 Full: the total would pass 1,000,000
 --     pairChecks r xs ys            12, 9, 13, 8; feedChecks, these, then 18
---     takenSays, closedSays         the numbers that each case of an answer stands for; takenOf, closedOf, the way back
+--     closeChecks r len             12, 10: a list of len elements is lent for the 2k-1 coefficients
+--     takenSays, closedSays         the numbers that each case of an answer stands for; takenOf, closedOf, the way back, as taken-back, closed-back say
 --     keptBy v new old              the record handed back: as it was on a refusal, else the new one
+--     freshSum, recordOf s u        in a fresh record all but the setting is zero; the record of a setting and a sum
 --     Freshens, Feeds, Closes       the promises of fresh, feed, close; fresh-once, feed-once, close-once: each allows one result only
---     Call, Calls r calls z         calls of feed, one after the other, from the record r to z, none refused: what each was given and what it gave
---     lefts, rights                 all that the calls were given, as two flat lists
---     schoolbook s cs               the schoolbook sum of the pairs' products modulo p, its 2k-1 coefficients
---     ClosesTo s cs old a after     what demand 3 says of closing: that sum, and pairs / n, rounded up, as the number of reductions; 10 alone can refuse
---     sumOf s cs                    what demand 3 says of the record: residues of full batches, unreduced sum of the rest, number of pairs
 use Prim.Native.Nat.{ℕ, _+_, _-_, _*_, _/_, _%_, _^_, _≤_, _<_}
 use mathlib.Core.Path.{_≡_, refl, sym, ap, _∙_}
-use mathlib.Core.Bool.{Bool, false, not, _||_}
-use mathlib.Core.List.{List, [], _∷_, _++_}
+use mathlib.Core.Bool.{Bool, not, _||_}
+use mathlib.Core.List.{List, [], _∷_}
 use lib.Dec.{ltb, eqb}
 use lib.ListN.{length, replicate}
 use Rattle.polynomials.specs.Indices.{pick, upto, filled, exceeds}
-use Rattle.polynomials.specs.Lists.{coefficient, Below, Pair, sumOfProducts, batchMost}
+use Rattle.polynomials.specs.Lists.{coefficient, Below, Pair, batchMost}
 use Rattle.polynomials.specs.Places.{packed, field}
 use Rattle.polynomials.specs.Blocks.{blocks}
-use Rattle.polynomials.specs.Pairs.{pairsOf, fullBatches, openBatch}
+use Rattle.polynomials.specs.Pairs.{pairsOf}
 use Rattle.packed.specs.Limits.{mostPairs, residuePlaces}
 use Rattle.packed.specs.Answers.{Answer, answered, refused, Verdict, fine, refuse, refuses, _andThen_, leftBy}
 use Rattle.packed.specs.AnswerLaws.{once}
@@ -197,37 +194,3 @@ Closes r old a after =
 
 pub close-once : (r : Record) (old : List ℕ) (a b : Closed) (x y : List ℕ) → Closes r old a x → Closes r old b y → (a ≡ b) × (x ≡ y)
 close-once r old a b x y ha hb = (once closedSays closedOf closed-back a b _ (ha .0) (hb .0), ha .1 ∙ sym (hb .1))
-
--- ---- demand 3
-
-pub record Call : Type 0 where
-  pub left : List ℕ
-  pub right : List ℕ
-  pub gave : Fed
-
-abbrev pub Calls : Record → List Call → Record → Type 0
-Calls r [] z = r ≡ z
-Calls r (c ∷ cs) z = Feeds r (c .left) (c .right) (c .gave) × (refuses (takenSays (c .gave .answer)) ≡ false) × Calls (c .gave .running) cs z
-
-abbrev pub lefts : List Call → List ℕ
-lefts [] = []
-lefts (c ∷ cs) = c .left ++ lefts cs
-
-abbrev pub rights : List Call → List ℕ
-rights [] = []
-rights (c ∷ cs) = c .right ++ rights cs
-
-abbrev pub schoolbook : Setting → List Pair → List ℕ
-schoolbook s cs = upto (places s) (λ j. coefficient (sumOfProducts cs) j % s .p)
-
-abbrev pub ClosesTo : Setting → List Pair → List ℕ → Closed → List ℕ → Type 0
-ClosesTo s cs old a after =
-    let short : Verdict = refuse (shortCause (places s) (length old)) 10 0 in
-    (closedSays a ≡ (short andThen answered (blocks (s .n) (length cs)))) × (after ≡ leftBy short (schoolbook s cs) old)
-
-abbrev pub sumOf : Setting → List Pair → Sum
-sumOf s cs = record {
-  total = length cs;
-  word = packed (base s) (sumOfProducts (openBatch (s .n) cs));
-  residues = upto residuePlaces (λ j. coefficient (sumOfProducts (fullBatches (s .n) cs)) j % s .p);
-}

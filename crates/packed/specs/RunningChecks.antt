@@ -3,7 +3,7 @@
 --     never-feeds-over              no batch of a coherent record reaches 2^64
 --     feed-refused, feed-fine       so feed refuses what is refused up to 8, and nothing else
 --     feed-nothing, feed-taken      what keeps feed's promise: the record as it was beside a refusal, and the sum after all pairs
---     feed-told                     a feed that was not refused: the lists could be fed, what it answered, and the record after it
+--     Told, feed-told               a feed that was not refused: the lists could be fed, what it answered, and the record after it
 --     close-checked, close-pass     what passing the checks of close says; what is left of them for a coherent record
 --     close-nothing, close-written  what keeps its promise: the list as it was beside a refusal, and the list filled
 use Prim.Native.Nat.{ℕ, zero, suc, _+_, _-_, _/_, _%_, _^_, _≤_, _<_, min}

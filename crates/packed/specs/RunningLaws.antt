@@ -1,11 +1,10 @@
 -- Coherent records, and what pairs do to them. Assumes nothing.
 --     coherent-is          12 is given exactly where the record is not coherent
 --     residue-within       coherent residues are at most residueMost
---     OpenWord             what the word of a coherent record is: its fields, each small enough, packed
---     open-fields          so it is
 --     field-more           adding the products of pairs, up to n in the batch, adds their coefficients field by field
 --     word-room            and stays below 2^64
 --     after-one            one pair, where it fills the batch and where it does not
+--     withPairs            pairs added up in the word, before any split
 --     batch-after          pairs that the open batch takes, one after the other, are added up in the word, and at n pairs it is split
 --     after-join           some pairs and then more
 --     after-total          the total counts them
@@ -171,7 +170,6 @@ unfolding afterPairs
 after-join s u [] ds = refl
 after-join s u (c ∷ cs) ds = after-join s (afterPair s u c) cs ds
 
--- some pairs added up in the word, before any split
 abbrev pub withPairs : Setting → Sum → ℕ → ℕ → Sum
 withPairs s u m w = record { total = u .total + m; word = u .word + w; residues = u .residues }
 

@@ -6,7 +6,7 @@
 --     flat-join                    the pairs of flat lists joined are those of the first lists, then those of the second
 --     coefficient-sums             a sum of products joined is the sum of both, in every coefficient
 --     words-join                   and as packed numbers
---     sums-order                   order does not matter to a sum of products
+--     sums-order, length-order     order matters neither to a sum of products nor to how many there are
 --     remainder-next, remainder-full
 --                                  one more, modulo n: the open batch grows, or it is full
 --     inside, batches, open-few    the pairs in full batches are among the pairs; these and the rest are all; the rest are fewer than n

@@ -32,7 +32,7 @@ same : (p t k : ℕ) (xs : List ℕ) (i : ℕ) → i * k + k ≤ length xs → p
 same p t k xs i h =
     packed-agree (2 ^ t) (taken p (part (i * k) (i * k + k) xs)) (block k (taken p xs) i) (λ j. taken-part p k xs i (i * k) (i * k + k) j (omega arith) (omega arith))
 
-module _ (p t k : ℕ) (xs ys : List ℕ) (i m word : ℕ) (pre : Multiplying p t k xs ys i m word) (r sum : ℕ) (l : r < m) (e : sum ≡ word + products p t k xs ys i r) where
+module _ {p t k : ℕ} {xs ys : List ℕ} {i m word : ℕ} (pre : Multiplying p t k xs ys i m word) {r sum : ℕ} (l : r < m) (e : sum ≡ word + products p t k xs ys i r) where
   inside : (i + r) * k + k ≤ (i + m) * k
   inside = omega (arith, mul-le-mul-right {m = suc (i + r)} {n = i + m} k (omega arith), suc-mul (i + r) k)
 
@@ -43,7 +43,7 @@ module _ (p t k : ℕ) (xs ys : List ℕ) (i m word : ℕ) (pre : Multiplying p 
   index = omega (arith, near, le-mul-of-pos-right (i + r) (pre .k-low))
 
   -- the words that are packed of the pair, and what has been added after it
-  module _ (x y : ℕ) (hx : x ≡ packed (2 ^ t) (taken p (part ((i + r) * k) ((i + r) * k + k) xs))) (hy : y ≡ packed (2 ^ t) (taken p (part ((i + r) * k) ((i + r) * k + k) ys))) where
+  module _ {x y : ℕ} (hx : x ≡ packed (2 ^ t) (taken p (part ((i + r) * k) ((i + r) * k + k) xs))) (hy : y ≡ packed (2 ^ t) (taken p (part ((i + r) * k) ((i + r) * k + k) ys))) where
     turn : sum + x * y ≡ word + products p t k xs ys i (r + 1)
     turn =
         let left : x ≡ blockAt (2 ^ t) k (taken p xs) (i + r) = hx ∙ same p t k xs (i + r) (omega (arith, inside, pre .left-room)) in
@@ -59,16 +59,16 @@ loop-holds : tie.Need-loop-holds Inv-loop μ-loop
 loop-holds c = (omega arith, sym (add-zero (c .before .before .args .word)))
 
 add-at : tie.Need-add-at Inv-loop μ-loop
-add-at c = omega (arith, index (c .before .before .before .before .args .p) (c .before .before .before .before .args .t) (c .before .before .before .before .args .k) (now (c .before .before .before .before .args .xs)) (now (c .before .before .before .before .args .ys)) (c .before .before .before .before .args .i) (c .before .before .before .before .args .count) (c .before .before .before .before .args .word) (c .before .before .before .before .pre) (c .before .loop .r) (c .before .loop .sum) (c .loop-test .taken) (c .before .loop .inv .1))
+add-at c = omega (arith, index (c .before .before .before .before .pre) (c .loop-test .taken) (c .before .loop .inv .1))
 
 mul-at : tie.Need-mul-at Inv-loop μ-loop
-mul-at c = omega (arith, near (c .before .before .before .before .args .p) (c .before .before .before .before .args .t) (c .before .before .before .before .args .k) (now (c .before .before .before .before .args .xs)) (now (c .before .before .before .before .args .ys)) (c .before .before .before .before .args .i) (c .before .before .before .before .args .count) (c .before .before .before .before .args .word) (c .before .before .before .before .pre) (c .before .loop .r) (c .before .loop .sum) (c .loop-test .taken) (c .before .loop .inv .1))
+mul-at c = omega (arith, near (c .before .before .before .before .pre) (c .loop-test .taken) (c .before .loop .inv .1))
 
 add-pack-taken : tie.Need-add-pack-taken Inv-loop μ-loop
-add-pack-taken c = omega (arith, near (c .before .before .before .before .args .p) (c .before .before .before .before .args .t) (c .before .before .before .before .args .k) (now (c .before .before .before .before .args .xs)) (now (c .before .before .before .before .args .ys)) (c .before .before .before .before .args .i) (c .before .before .before .before .args .count) (c .before .before .before .before .args .word) (c .before .before .before .before .pre) (c .before .loop .r) (c .before .loop .sum) (c .loop-test .taken) (c .before .loop .inv .1))
+add-pack-taken c = omega (arith, near (c .before .before .before .before .pre) (c .loop-test .taken) (c .before .loop .inv .1))
 
 mul-pack-taken : tie.Need-mul-pack-taken Inv-loop μ-loop
-mul-pack-taken c = omega (arith, near (c .before .before .before .before .args .p) (c .before .before .before .before .args .t) (c .before .before .before .before .args .k) (now (c .before .before .before .before .args .xs)) (now (c .before .before .before .before .args .ys)) (c .before .before .before .before .args .i) (c .before .before .before .before .args .count) (c .before .before .before .before .args .word) (c .before .before .before .before .pre) (c .before .loop .r) (c .before .loop .sum) (c .loop-test .taken) (c .before .loop .inv .1))
+mul-pack-taken c = omega (arith, near (c .before .before .before .before .pre) (c .loop-test .taken) (c .before .loop .inv .1))
 
 sub-pack-taken : tie.Need-sub-pack-taken Inv-loop μ-loop
 sub-pack-taken c = search needs
@@ -77,19 +77,20 @@ part-pack-taken-start : tie.Need-part-pack-taken-start Inv-loop μ-loop
 part-pack-taken-start c = search needs
 
 part-pack-taken-end : tie.Need-part-pack-taken-end Inv-loop μ-loop
-part-pack-taken-end c = let h = inside (c .before .before .before .before .args .p) (c .before .before .before .before .args .t) (c .before .before .before .before .args .k) (now (c .before .before .before .before .args .xs)) (now (c .before .before .before .before .args .ys)) (c .before .before .before .before .args .i) (c .before .before .before .before .args .count) (c .before .before .before .before .args .word) (c .before .before .before .before .pre) (c .before .loop .r) (c .before .loop .sum) (c .loop-test .taken) (c .before .loop .inv .1) in omega (arith, h, c .before .before .before .before .pre .left-room)
+part-pack-taken-end c = omega (arith, inside (c .before .before .before .before .pre) (c .loop-test .taken) (c .before .loop .inv .1), c .before .before .before .before .pre .left-room)
 
 pack-taken-requires : tie.Need-pack-taken-requires Inv-loop μ-loop
 pack-taken-requires c κs =
     let a = c .before .before .before .before .before .args in
     let pre = c .before .before .before .before .before .pre in
-    (pre .p-low, pre .width, rw (same (a .p) (a .t) (a .k) (now (a .xs)) (a .i + c .before .before .loop .r) (omega (arith, inside (c .before .before .before .before .before .args .p) (c .before .before .before .before .before .args .t) (c .before .before .before .before .before .args .k) (now (c .before .before .before .before .before .args .xs)) (now (c .before .before .before .before .before .args .ys)) (c .before .before .before .before .before .args .i) (c .before .before .before .before .before .args .count) (c .before .before .before .before .before .args .word) (c .before .before .before .before .before .pre) (c .before .before .loop .r) (c .before .before .loop .sum) (c .before .loop-test .taken) (c .before .before .loop .inv .1), pre .left-room))) (omega (arith, pre .left-fits (a .i + c .before .before .loop .r))))
+    let pair = a .i + c .before .before .loop .r in
+    (pre .p-low, pre .width, rw (same (a .p) (a .t) (a .k) (now (a .xs)) pair (omega (arith, inside (c .before .before .before .before .before .pre) (c .before .loop-test .taken) (c .before .before .loop .inv .1), pre .left-room))) (omega (arith, pre .left-fits pair)))
 
 add-pack-taken-2 : tie.Need-add-pack-taken-2 Inv-loop μ-loop
-add-pack-taken-2 c = omega (arith, near (c .before .before .before .before .before .before .args .p) (c .before .before .before .before .before .before .args .t) (c .before .before .before .before .before .before .args .k) (now (c .before .before .before .before .before .before .args .xs)) (now (c .before .before .before .before .before .before .args .ys)) (c .before .before .before .before .before .before .args .i) (c .before .before .before .before .before .before .args .count) (c .before .before .before .before .before .before .args .word) (c .before .before .before .before .before .before .pre) (c .before .before .before .loop .r) (c .before .before .before .loop .sum) (c .before .before .loop-test .taken) (c .before .before .before .loop .inv .1))
+add-pack-taken-2 c = omega (arith, near (c .before .before .before .before .before .before .pre) (c .before .before .loop-test .taken) (c .before .before .before .loop .inv .1))
 
 mul-pack-taken-2 : tie.Need-mul-pack-taken-2 Inv-loop μ-loop
-mul-pack-taken-2 c = omega (arith, near (c .before .before .before .before .before .before .args .p) (c .before .before .before .before .before .before .args .t) (c .before .before .before .before .before .before .args .k) (now (c .before .before .before .before .before .before .args .xs)) (now (c .before .before .before .before .before .before .args .ys)) (c .before .before .before .before .before .before .args .i) (c .before .before .before .before .before .before .args .count) (c .before .before .before .before .before .before .args .word) (c .before .before .before .before .before .before .pre) (c .before .before .before .loop .r) (c .before .before .before .loop .sum) (c .before .before .loop-test .taken) (c .before .before .before .loop .inv .1))
+mul-pack-taken-2 c = omega (arith, near (c .before .before .before .before .before .before .pre) (c .before .before .loop-test .taken) (c .before .before .before .loop .inv .1))
 
 sub-pack-taken-2 : tie.Need-sub-pack-taken-2 Inv-loop μ-loop
 sub-pack-taken-2 c = search needs
@@ -98,19 +99,20 @@ part-pack-taken-start-2 : tie.Need-part-pack-taken-start-2 Inv-loop μ-loop
 part-pack-taken-start-2 c = search needs
 
 part-pack-taken-end-2 : tie.Need-part-pack-taken-end-2 Inv-loop μ-loop
-part-pack-taken-end-2 c = let h = inside (c .before .before .before .before .before .before .args .p) (c .before .before .before .before .before .before .args .t) (c .before .before .before .before .before .before .args .k) (now (c .before .before .before .before .before .before .args .xs)) (now (c .before .before .before .before .before .before .args .ys)) (c .before .before .before .before .before .before .args .i) (c .before .before .before .before .before .before .args .count) (c .before .before .before .before .before .before .args .word) (c .before .before .before .before .before .before .pre) (c .before .before .before .loop .r) (c .before .before .before .loop .sum) (c .before .before .loop-test .taken) (c .before .before .before .loop .inv .1) in omega (arith, h, c .before .before .before .before .before .before .pre .right-room)
+part-pack-taken-end-2 c = omega (arith, inside (c .before .before .before .before .before .before .pre) (c .before .before .loop-test .taken) (c .before .before .before .loop .inv .1), c .before .before .before .before .before .before .pre .right-room)
 
 pack-taken-requires-2 : tie.Need-pack-taken-requires-2 Inv-loop μ-loop
 pack-taken-requires-2 c κs =
     let a = c .before .before .before .before .before .before .before .args in
     let pre = c .before .before .before .before .before .before .before .pre in
-    (pre .p-low, pre .width, rw (same (a .p) (a .t) (a .k) (now (a .ys)) (a .i + c .before .before .before .before .loop .r) (omega (arith, inside (c .before .before .before .before .before .before .before .args .p) (c .before .before .before .before .before .before .before .args .t) (c .before .before .before .before .before .before .before .args .k) (now (c .before .before .before .before .before .before .before .args .xs)) (now (c .before .before .before .before .before .before .before .args .ys)) (c .before .before .before .before .before .before .before .args .i) (c .before .before .before .before .before .before .before .args .count) (c .before .before .before .before .before .before .before .args .word) (c .before .before .before .before .before .before .before .pre) (c .before .before .before .before .loop .r) (c .before .before .before .before .loop .sum) (c .before .before .before .loop-test .taken) (c .before .before .before .before .loop .inv .1), pre .right-room))) (omega (arith, pre .right-fits (a .i + c .before .before .before .before .loop .r))))
+    let pair = a .i + c .before .before .before .before .loop .r in
+    (pre .p-low, pre .width, rw (same (a .p) (a .t) (a .k) (now (a .ys)) pair (omega (arith, inside (c .before .before .before .before .before .before .before .pre) (c .before .before .before .loop-test .taken) (c .before .before .before .before .loop .inv .1), pre .right-room))) (omega (arith, pre .right-fits pair)))
 
 mul-sum : tie.Need-mul-sum Inv-loop μ-loop
-mul-sum c = omega (arith, room (c .before .before .before .before .before .before .before .before .args .p) (c .before .before .before .before .before .before .before .before .args .t) (c .before .before .before .before .before .before .before .before .args .k) (now (c .before .before .before .before .before .before .before .before .args .xs)) (now (c .before .before .before .before .before .before .before .before .args .ys)) (c .before .before .before .before .before .before .before .before .args .i) (c .before .before .before .before .before .before .before .before .args .count) (c .before .before .before .before .before .before .before .before .args .word) (c .before .before .before .before .before .before .before .before .pre) (c .before .before .before .before .before .loop .r) (c .before .before .before .before .before .loop .sum) (c .before .before .before .before .loop-test .taken) (c .before .before .before .before .before .loop .inv .1) (c .before .before .pack-taken .result) (c .pack-taken2 .result) (c .before .before .pack-taken .ensures) (c .pack-taken2 .ensures))
+mul-sum c = omega (arith, room (c .before .before .before .before .before .before .before .before .pre) (c .before .before .before .before .loop-test .taken) (c .before .before .before .before .before .loop .inv .1) (c .before .before .pack-taken .ensures) (c .pack-taken2 .ensures))
 
 add-sum : tie.Need-add-sum Inv-loop μ-loop
-add-sum c = omega (arith, room (c .before .before .before .before .before .before .before .before .args .p) (c .before .before .before .before .before .before .before .before .args .t) (c .before .before .before .before .before .before .before .before .args .k) (now (c .before .before .before .before .before .before .before .before .args .xs)) (now (c .before .before .before .before .before .before .before .before .args .ys)) (c .before .before .before .before .before .before .before .before .args .i) (c .before .before .before .before .before .before .before .before .args .count) (c .before .before .before .before .before .before .before .before .args .word) (c .before .before .before .before .before .before .before .before .pre) (c .before .before .before .before .before .loop .r) (c .before .before .before .before .before .loop .sum) (c .before .before .before .before .loop-test .taken) (c .before .before .before .before .before .loop .inv .1) (c .before .before .pack-taken .result) (c .pack-taken2 .result) (c .before .before .pack-taken .ensures) (c .pack-taken2 .ensures))
+add-sum c = omega (arith, room (c .before .before .before .before .before .before .before .before .pre) (c .before .before .before .before .loop-test .taken) (c .before .before .before .before .before .loop .inv .1) (c .before .before .pack-taken .ensures) (c .pack-taken2 .ensures))
 
 add-r : tie.Need-add-r Inv-loop μ-loop
 add-r c = omega (arith, c .before .before .before .before .loop-test .taken)
@@ -119,7 +121,7 @@ loop-less : tie.Need-loop-less Inv-loop μ-loop
 loop-less c = omega (arith, c .before .before .before .before .loop-test .taken)
 
 loop-again : tie.Need-loop-again Inv-loop μ-loop
-loop-again c = (omega (arith, c .before .before .before .before .loop-test .taken), turn (c .before .before .before .before .before .before .before .before .args .p) (c .before .before .before .before .before .before .before .before .args .t) (c .before .before .before .before .before .before .before .before .args .k) (now (c .before .before .before .before .before .before .before .before .args .xs)) (now (c .before .before .before .before .before .before .before .before .args .ys)) (c .before .before .before .before .before .before .before .before .args .i) (c .before .before .before .before .before .before .before .before .args .count) (c .before .before .before .before .before .before .before .before .args .word) (c .before .before .before .before .before .before .before .before .pre) (c .before .before .before .before .before .loop .r) (c .before .before .before .before .before .loop .sum) (c .before .before .before .before .loop-test .taken) (c .before .before .before .before .before .loop .inv .1) (c .before .before .pack-taken .result) (c .pack-taken2 .result) (c .before .before .pack-taken .ensures) (c .pack-taken2 .ensures))
+loop-again c = (omega (arith, c .before .before .before .before .loop-test .taken), turn (c .before .before .before .before .before .before .before .before .pre) (c .before .before .before .before .loop-test .taken) (c .before .before .before .before .before .loop .inv .1) (c .before .before .pack-taken .ensures) (c .pack-taken2 .ensures))
 
 returns : tie.Need-returns Inv-loop μ-loop
 returns c =

@@ -46,7 +46,10 @@ add-residues-requires c κs =
     (omega (arith, range .choice .p-low), range .choice .p-high, omega (arith, range .t-high), omega arith, omega (arith, c .before .before .places .ensures, close-checked _ _ (passed (c .before .before .before .before .before .before)) .1))
 
 block-count-requires : tie.Need-block-count-requires
-block-count-requires c κs = let h = close-checked _ _ (passed (c .before .before .before .before .before .before .before .before .before)) .0 in (bounded (c .before .before .before .before .before .before .before .before .before) .range .choice .n-low, bounded (c .before .before .before .before .before .before .before .before .before) .range .choice .n-high, h .few)
+block-count-requires c κs =
+    let h = close-checked _ _ (passed (c .before .before .before .before .before .before .before .before .before)) .0 in
+    let choice = bounded (c .before .before .before .before .before .before .before .before .before) .range .choice in
+    (omega (arith, choice .n-low, choice .k-low), omega (arith, choice .n-high, choice .k-high), h .few)
 
 same-length : tie.Need-same-length
 same-length c = search needs
