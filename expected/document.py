@@ -1,4 +1,4 @@
-"""Rows 1 to 6 of document 01 in whole numbers, and the pieces of a line: what the expected.py of every cases program shares. No code of the
+"""Rows 1 to 6 of document 01 in whole numbers, the pieces of a line, and lists to work on: what the expected.py of every cases program shares. No code of the
 crates is used."""
 
 ALL = 2**64 - 1
@@ -40,3 +40,18 @@ def words(*parts):
     for part in parts:
         flat += part if isinstance(part, (list, tuple)) else [part]
     return " ".join(str(x) for x in flat)
+
+
+def made(p, c, length):
+    """Each coefficient by a power of its own, and not from the one before."""
+    return [c * pow(75, i, 65537) % 65537 % p for i in range(length)]
+
+
+def listed(xs):
+    """A list, or of a long one its length and its digest."""
+    if len(xs) <= 16:
+        return xs
+    digest = 0
+    for x in xs:
+        digest = (digest * 257 + x) % 1000003
+    return [len(xs), "with digest", digest]

@@ -11,7 +11,7 @@ import os
 import sys
 
 sys.path.insert(0, os.path.join(os.path.dirname(os.path.abspath(__file__)), "..", "..", "expected"))
-from document import SEVEN, check, words
+from document import SEVEN, check, listed, made, words
 
 LONGEST = 4096
 
@@ -53,20 +53,6 @@ def product(s, a, b, lent):
     if lent < len(new):
         return ("refused 10 0:", old)
     return ("wrote %d:" % len(new), new + old[len(new):])
-
-
-def made(p, c, length):
-    """Each coefficient by a power of its own, and not from the one before."""
-    return [c * pow(75, i, 65537) % 65537 % p for i in range(length)]
-
-
-def listed(xs):
-    if len(xs) <= 16:
-        return xs
-    digest = 0
-    for x in xs:
-        digest = (digest * 257 + x) % 1000003
-    return [len(xs), "with digest", digest]
 
 
 def show(s, a, b, lent):

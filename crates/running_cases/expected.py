@@ -14,7 +14,7 @@ from collections import Counter
 from functools import cached_property
 
 sys.path.insert(0, os.path.join(os.path.dirname(os.path.abspath(__file__)), "..", "..", "expected"))
-from document import ALL, SEVEN, check, words
+from document import ALL, SEVEN, check, listed, made, words
 
 MOST = 1000000
 RESIDUES = 15
@@ -118,20 +118,6 @@ def close(record, lent):
     total, word, residues = record.sum
     assert new == [(x + y) % p for x, y in zip(residues, fields(record.s, word))]
     return ("reductions %d:" % -(-total // n), new + old[len(new):])
-
-
-def made(p, c, length):
-    """Each coefficient by a power of its own, and not from the one before."""
-    return [c * pow(75, i, 65537) % 65537 % p for i in range(length)]
-
-
-def listed(xs):
-    if len(xs) <= 16:
-        return xs
-    digest = 0
-    for x in xs:
-        digest = (digest * 257 + x) % 1000003
-    return [len(xs), "with digest", digest]
 
 
 def show_fresh(*s):

@@ -145,6 +145,30 @@ pub fn coefficients(xs: &[u16])
     }
 }
 
+// A list, or of a long one its length and its digest.
+pub fn list(xs: &[u16])
+    ensures { λ r. ⌜ PrintsList (now (xs .entry)) (now (xs .exit)) r ⌝ }
+{
+    if xs.len() <= 16 {
+        coefficients(xs);
+        return;
+    }
+    number(xs.len() as u64);
+    text(b" with digest");
+    number(digest(xs));
+}
+
+// A number in which every coefficient counts with its place: times 257 and the next one added, again and again, modulo the prime 1,000,003.
+fn digest(xs: &[u16]) -> u64 {
+    let mut sum = 0u64;
+    let mut i = 0;
+    while i < xs.len() {
+        sum = (sum * 257 + wide(xs[i]) % 65536) % 1000003;
+        i += 1;
+    }
+    sum
+}
+
 pub fn words(xs: &[u64])
     ensures { λ r. ⌜ PrintsList (now (xs .entry)) (now (xs .exit)) r ⌝ }
 {

@@ -353,37 +353,12 @@ fn show(p: u64, k: u64, t: u64, n: u64, a: &[u16], b: &[u16], out: &mut [u16]) {
     lines::text(b"product");
     lines::setting(p, k, t, n);
     lines::text(b" of");
-    list(a);
+    lines::list(a);
     lines::text(b" by");
-    list(b);
+    lines::list(b);
     lines::text(b" into");
     lines::number(out.len() as u64);
     lines::wrote(product(Setting { p, k, t, n }, a, b, out));
-    list(out);
+    lines::list(out);
     lines::end();
-}
-
-fn list(xs: &[u16]) {
-    if xs.len() <= 16 {
-        lines::coefficients(xs);
-        return;
-    }
-    lines::number(xs.len() as u64);
-    lines::text(b" with digest");
-    lines::number(digest(xs));
-}
-
-// A number in which every coefficient counts with its place: times 257 and the next one added, again and again, modulo the prime 1,000,003.
-fn digest(xs: &[u16]) -> u64 {
-    let mut sum = 0u64;
-    let mut i = 0;
-    while i < xs.len() {
-        sum = (sum * 257 + wide(xs[i]) % 65536) % 1000003;
-        i += 1;
-    }
-    sum
-}
-
-fn wide(x: u16) -> u64 {
-    x as u64
 }

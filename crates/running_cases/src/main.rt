@@ -798,9 +798,9 @@ fn show_call(running: Record, xs: &[u16], ys: &[u16]) -> Record {
     lines::text(b"feed");
     lines::record(running);
     lines::text(b" of");
-    list(xs);
+    lines::list(xs);
     lines::text(b" by");
-    list(ys);
+    lines::list(ys);
     let after = feed(running, xs, ys);
     let answer = after.answer;
     lines::taken(answer);
@@ -839,29 +839,4 @@ fn residue(p: u64, x: u64) -> u16 {
         return 0;
     }
     (x % p % 65536) as u16
-}
-
-fn list(xs: &[u16]) {
-    if xs.len() <= 16 {
-        lines::coefficients(xs);
-        return;
-    }
-    lines::number(xs.len() as u64);
-    lines::text(b" with digest");
-    lines::number(digest(xs));
-}
-
-// A number in which every coefficient counts with its place: times 257 and the next one added, again and again, modulo the prime 1,000,003.
-fn digest(xs: &[u16]) -> u64 {
-    let mut sum = 0u64;
-    let mut i = 0;
-    while i < xs.len() {
-        sum = (sum * 257 + wide(xs[i]) % 65536) % 1000003;
-        i += 1;
-    }
-    sum
-}
-
-fn wide(x: u16) -> u64 {
-    x as u64
 }

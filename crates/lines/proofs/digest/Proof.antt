@@ -2,8 +2,8 @@
 use Prim.Native.Nat.{_-_, _≤_, _<_}
 use lib.ListN.{length}
 use borrow.Author.Needs.{needs}
-use Rattle.running_cases.proofs.digest.Statement.{statement}
-use Rattle.running_cases.proofs.digest.Tie as tie
+use Rattle.lines.proofs.digest.Statement.{statement}
+use Rattle.lines.proofs.digest.Tie as tie
 
 abbrev Inv-loop : tie.InvT-loop
 Inv-loop xs sum₀ i₀ sum i = (i ≤ length xs) × (sum < 1000003)
