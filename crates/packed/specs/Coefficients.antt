@@ -8,9 +8,9 @@
 --                               they pass exactly where every coefficient is below p
 --     NoneAbove most xs         no coefficient is above most
 --     taken p xs                what packing takes of a list: the list itself; takenOne p x, of one coefficient
---     taken-length, taken-at, taken-join, taken-below, taken-operand
+--     taken-length, taken-at, taken-join, taken-below, taken-low, taken-operand
 --                               it has the list's length; it is taken one by one, and of joined lists from each; of a list below p it is the
---                               list, and so an operand
+--                               list, and so below p, and an operand
 use Prim.Native.Nat.{ℕ, _+_, _≤_, _<_}
 use mathlib.Core.Path.{_≡_, refl}
 use mathlib.Core.Bool.{Bool, true, false}
@@ -100,5 +100,8 @@ pub taken-below : (p : ℕ) (xs : List ℕ) → Below p xs → taken p xs ≡ xs
 unfolding taken
 taken-below p xs h = refl
 
+pub taken-low : (p : ℕ) (xs : List ℕ) → Below p xs → Below p (taken p xs)
+taken-low p xs h = rw (taken-below p xs h) h
+
 pub taken-operand : (p k : ℕ) (xs : List ℕ) → length xs ≤ k → Below p xs → Operand p k (taken p xs)
-taken-operand p k xs h b = record { size = rw taken-length h; below = rw (taken-below p xs b) b }
+taken-operand p k xs h b = record { size = rw taken-length h; below = taken-low p xs b }

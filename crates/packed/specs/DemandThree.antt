@@ -33,7 +33,7 @@ use Rattle.packed.specs.Answers.{answered, refused, Verdict, fine, refus
 use Rattle.packed.specs.SharedAnswers.{shortCause}
 use Rattle.packed.specs.AnswerLaws.{once}
 use Rattle.packed.specs.Settings.{settingChecks, base, places, spanOf}
-use Rattle.packed.specs.Coefficients.{taken, taken-below, taken-length, taken-join}
+use Rattle.packed.specs.Coefficients.{taken, taken-low, taken-length, taken-join}
 use Rattle.packed.specs.Bounds.{Bounds, bounds}
 use Rattle.packed.specs.Running.{Coherent, closingAt, split, withPair, afterPair, afterPairs, fedPairs, pairChecks, closeChecks, takenSays, freshSum, recordOf, Freshens, Feeds, feed-once, closedSays, closedOf, closed-back, Closes}
 use Rattle.packed.specs.Calls.{Call, Calls, lefts, rights, schoolbook, ClosesTo, sumOf}
@@ -65,7 +65,7 @@ fresh-coherent s ok =
 
 fed-operands : (s : Setting) (u : Sum) (xs ys : List ℕ) → Feeding s u xs ys → Pairs (s .p) (s .k) (fedPairs s xs ys)
 fed-operands s u xs ys f =
-    pairs-of-operands (s .p) (s .k) (taken (s .p) xs) (taken (s .p) ys) (rw (taken-below (s .p) xs (f .left-below)) (f .left-below)) (rw (taken-below (s .p) ys (f .right-below)) (f .right-below))
+    pairs-of-operands (s .p) (s .k) (taken (s .p) xs) (taken (s .p) ys) (taken-low (s .p) xs (f .left-below)) (taken-low (s .p) ys (f .right-below))
 
 fed-count : (s : Setting) (xs ys : List ℕ) → length (fedPairs s xs ys) ≡ length xs / s .k
 fed-count s xs ys = length-pairs-of (s .k) (taken (s .p) xs) (taken (s .p) ys) ∙ ap (λ (n : ℕ). n / s .k) (taken-length (s .p) xs)

@@ -1,4 +1,6 @@
 -- The sums of a feed, a batch at a time, on plain values. Assumes nothing.
+--     run-count, run-words, run-operands
+--                                 pairs that follow one another: how many, the sum of their packed products, that they are operands
 --     multiplying                 the pairs of an open batch can be multiplied and added up in its word
 --     batch-full, batch-open      the sum after them, where the batch is full and where it is not
 --     soFar s u xs ys i           the sum after the first i pairs
@@ -20,7 +22,7 @@ use Rattle.polynomials.specs.BlockLaws.{block-operand, length-pairs, pairs-oper
 use Rattle.polynomials.specs.PairLaws.{pairs-more}
 use Rattle.packed.specs.Limits.{mostCoefficients, mostPairs}
 use Rattle.packed.specs.Settings.{base}
-use Rattle.packed.specs.Coefficients.{taken, taken-below, taken-length}
+use Rattle.packed.specs.Coefficients.{taken, taken-low, taken-length}
 use Rattle.packed.specs.Bounds.{Bounds, bounds}
 use Rattle.packed.specs.Running.{openPairs, Coherent, split, afterPairs}
 use Rattle.packed.specs.RunningLaws.{word-room, withPairs, batch-after, after-join, after-total, coherent-after}
@@ -28,9 +30,26 @@ use Rattle.packed.specs.Feeding.{Feeding, fedSum, pairsFrom, OpenBatch, 
 use Rattle.packed.specs.declared.setting.Setting.{Setting}
 use Rattle.packed.specs.declared.running.Sum.{Sum}
 
--- what packing takes of a list below p is below p
-taken-low : (p : ℕ) (xs : List ℕ) → Below p xs → Below p (taken p xs)
-taken-low p xs h = rw (taken-below p xs h) h
+-- ---- pairs that follow one another
+
+module _ (s : Setting) (xs ys : List ℕ) (i m : ℕ) where
+  abbrev left : ℕ → List ℕ
+  left r = block (s .k) (taken (s .p) xs) (i + r)
+
+  abbrev right : ℕ → List ℕ
+  right r = block (s .k) (taken (s .p) ys) (i + r)
+
+  pub run-count : length (pairsFrom s xs ys i m) ≡ m
+  run-count = length-pairs m left right
+
+  pub run-words : sumOfWords (base s) (pairsFrom s xs ys i m) ≡ products (s .p) (s .t) (s .k) xs ys i m
+  run-words = words-of-pairs (base s) m left right
+
+  pub run-operands : Below (s .p) xs → Below (s .p) ys → Pairs (s .p) (s .k) (pairsFrom s xs ys i m)
+  run-operands hx hy =
+      pairs-operands (s .p) (s .k) m left right
+      (λ r. block-operand (s .p) (s .k) (taken (s .p) xs) (i + r) (taken-low (s .p) xs hx))
+      (λ r. block-operand (s .p) (s .k) (taken (s .p) ys) (i + r) (taken-low (s .p) ys hy))
 
 -- ---- a batch
 
@@ -42,19 +61,16 @@ module _ {s : Setting} {u : Sum} {held : ℕ} {xs ys : List ℕ} {i m : ℕ} (pr
   cs = pairsFrom s xs ys i m
 
   operands : Pairs (s .p) (s .k) cs
-  operands =
-      pairs-operands (s .p) (s .k) m (λ r. block (s .k) (taken (s .p) xs) (i + r)) (λ r. block (s .k) (taken (s .p) ys) (i + r))
-      (λ r. block-operand (s .p) (s .k) (taken (s .p) xs) (i + r) (taken-low (s .p) xs (pre .left-below)))
-      (λ r. block-operand (s .p) (s .k) (taken (s .p) ys) (i + r) (taken-low (s .p) ys (pre .right-below)))
+  operands = run-operands s xs ys i m (pre .left-below) (pre .right-below)
 
   count : length cs ≡ m
-  count = length-pairs m (λ r. block (s .k) (taken (s .p) xs) (i + r)) (λ r. block (s .k) (taken (s .p) ys) (i + r))
+  count = run-count s xs ys i m
 
   few : openPairs s u + length cs ≤ s .n
   few = rw count (omega (arith, pre .pairs, pre .most))
 
   words : sumOfWords (base s) cs ≡ products (s .p) (s .t) (s .k) xs ys i m
-  words = words-of-pairs (base s) m (λ r. block (s .k) (taken (s .p) xs) (i + r)) (λ r. block (s .k) (taken (s .p) ys) (i + r))
+  words = run-words s xs ys i m
 
   word-of : (zs : List ℕ) → Below (s .p) zs → (r : ℕ) → blockAt (2 ^ s .t) (s .k) (taken (s .p) zs) r < 2 ^ 32
   word-of zs h r = bounded .word-fits (block (s .k) (taken (s .p) zs) r) (block-operand (s .p) (s .k) (taken (s .p) zs) r (taken-low (s .p) zs h))
@@ -159,7 +175,7 @@ module _ {s : Setting} {u : Sum} {xs ys : List ℕ} (pre : Feeding s u xs ys) wh
           ∙ rw (fed .here, pairs-more i m (block (s .k) (taken (s .p) xs)) (block (s .k) (taken (s .p) ys)))
           (sym (after-join s u done (pairsFrom s xs ys i m)));
       pairs =
-          let counted : w .total ≡ v .total + m = rw is (after-total s v (pairsFrom s xs ys i m) ∙ rw (length-pairs m (λ r. block (s .k) (taken (s .p) xs) (i + r)) (λ r. block (s .k) (taken (s .p) ys) (i + r)))) in
+          let counted : w .total ≡ v .total + m = rw is (after-total s v (pairsFrom s xs ys i m) ∙ rw (run-count s xs ys i m)) in
           e ∙ rw (fed .pairs, counted) (mod-add-mod (v .total) (s .n) m);
     }
 

@@ -18,20 +18,20 @@ use lib.ListN.{length}
 use borrow.Author.Tests.{eqb-true, eq-eqb, ltb-false, le-ltb, lt-leb}
 use Rattle.polynomials.specs.Indices.{filled}
 use Rattle.polynomials.specs.IndexLaws.{length-upto, upto-at, first-none}
-use Rattle.polynomials.specs.Lists.{coefficient, Pairs}
-use Rattle.polynomials.specs.Blocks.{blocks, block, blockAt, pairsUpto, dot}
-use Rattle.polynomials.specs.BlockLaws.{block-operand, length-pairs, pairs-operands, words-of-pairs}
+use Rattle.polynomials.specs.Lists.{coefficient, Pair, Pairs}
+use Rattle.polynomials.specs.Blocks.{blocks, blockAt, dot}
 use Rattle.packed.specs.Limits.{mostPairs, wordBits}
 use Rattle.packed.specs.Answers.{answered, refused, Verdict, fine, refuses, refuse}
 use Rattle.packed.specs.AnswerLaws.{once, passed, passed-last}
 use Rattle.packed.specs.SharedAnswers.{shortCause}
 use Rattle.packed.specs.Settings.{base, places}
-use Rattle.packed.specs.Coefficients.{tooLarge, firstBad, taken, taken-below, coefficients-check}
+use Rattle.packed.specs.Coefficients.{tooLarge, firstBad, taken, coefficients-check}
 use Rattle.packed.specs.Bounds.{bounds, batch-sum}
 use Rattle.packed.specs.Overflow.{batchSums, feedOverflow}
 use Rattle.packed.specs.Running.{openPairs, recordCause, Coherent, pairsCause, fullCause, pairChecks, feedChecks, closeChecks, takenSays, takenOf, taken-back, recordOf, Feeds, closingAt, Closes}
 use Rattle.packed.specs.RunningLaws.{coherent-is, word-room}
-use Rattle.packed.specs.Feeding.{Feeding, fedSum}
+use Rattle.packed.specs.FeedLaws.{run-count, run-words, run-operands}
+use Rattle.packed.specs.Feeding.{pairsFrom, Feeding, fedSum}
 use Rattle.packed.specs.declared.refusals.Refusal.{Refusal}
 use Rattle.packed.specs.declared.setting.Setting.{Setting}
 use Rattle.packed.specs.declared.running.Sum.{Sum}
@@ -88,26 +88,20 @@ module _ (s : Setting) (u : Sum) (xs ys : List ℕ) (f : Feeding s u xs ys) wher
   abbrev y : ℕ → ℕ
   y = blockAt (base s) (s .k) (taken (s .p) ys)
 
-  abbrev left : ℕ → ℕ → List ℕ
-  left i r = block (s .k) (taken (s .p) xs) (i + r)
+  abbrev run : ℕ → ℕ → List Pair
+  run i n = pairsFrom s xs ys i n
 
-  abbrev right : ℕ → ℕ → List ℕ
-  right i r = block (s .k) (taken (s .p) ys) (i + r)
-
-  run-pairs : (i n : ℕ) → Pairs (s .p) (s .k) (pairsUpto n (left i) (right i))
-  run-pairs i n =
-      pairs-operands (s .p) (s .k) n (left i) (right i)
-      (λ r. block-operand (s .p) (s .k) (taken (s .p) xs) (i + r) (rw (taken-below (s .p) xs (f .left-below)) (f .left-below)))
-      (λ r. block-operand (s .p) (s .k) (taken (s .p) ys) (i + r) (rw (taken-below (s .p) ys (f .right-below)) (f .right-below)))
+  operands : (i n : ℕ) → Pairs (s .p) (s .k) (run i n)
+  operands i n = run-operands s xs ys i n (f .left-below) (f .right-below)
 
   run-fits : (i n : ℕ) → n ≤ s .n → dot x y i i n < 2 ^ 64
-  run-fits i n few = rw (← words-of-pairs (base s) n (left i) (right i)) (batch-sum s (bounds s (f .coherent .accepted)) (pairsUpto n (left i) (right i)) (run-pairs i n) (rw length-pairs few))
+  run-fits i n few = rw (← run-words s xs ys i n) (batch-sum s (bounds s (f .coherent .accepted)) (run i n) (operands i n) (rw (run-count s xs ys i n) few))
 
   open-fits : u .word + dot x y 0 0 (min (s .n - openPairs s u) m) < 2 ^ 64
   open-fits =
       let n : ℕ = min (s .n - openPairs s u) m in
-      rw (← words-of-pairs (base s) n (left 0) (right 0))
-      (word-room s u (f .coherent) (pairsUpto n (left 0) (right 0)) (run-pairs 0 n) (rw length-pairs (omega (arith, mod-lt (u .total) (bounds s (f .coherent .accepted) .range .choice .n-low)))))
+      let within : openPairs s u + n ≤ s .n = omega (arith, mod-lt (u .total) (bounds s (f .coherent .accepted) .range .choice .n-low)) in
+      rw (← run-words s xs ys 0 n) (word-room s u (f .coherent) (run 0 n) (operands 0 n) (rw (run-count s xs ys 0 n) within))
 
   pub never-feeds-over : feedOverflow s (openPairs s u) (u .word) xs ys ≡ false
   unfolding feedOverflow

@@ -12,7 +12,7 @@ use Rattle.polynomials.specs.Places.{packed}
 use Rattle.polynomials.specs.PlaceLaws.{packed-agree}
 use Rattle.polynomials.specs.Blocks.{block, blockAt}
 use Rattle.polynomials.specs.BlockLaws.{block-operand}
-use Rattle.packed.specs.Coefficients.{taken, taken-below}
+use Rattle.packed.specs.Coefficients.{taken, taken-low}
 use Rattle.packed.specs.BatchLaws.{taken-part}
 use Rattle.packed.specs.Gathering.{Packing}
 use Rattle.packed.specs.declared.setting.Setting.{Setting}
@@ -26,7 +26,7 @@ module _ (s : Setting) (xs : List ℕ) (i : ℕ) (pre : Packing s xs) where
   same start end hs he = packed-agree (2 ^ s .t) (taken (s .p) (part start end xs)) (block (s .k) (taken (s .p) xs) i) (λ j. taken-part (s .p) (s .k) xs i start end j hs he)
 
   word : blockAt (2 ^ s .t) (s .k) (taken (s .p) xs) i < 2 ^ 32
-  word = pre .bounded .word-fits (block (s .k) (taken (s .p) xs) i) (block-operand (s .p) (s .k) (taken (s .p) xs) i (rw (taken-below (s .p) xs (pre .below)) (pre .below)))
+  word = pre .bounded .word-fits (block (s .k) (taken (s .p) xs) i) (block-operand (s .p) (s .k) (taken (s .p) xs) i (taken-low (s .p) xs (pre .below)))
 
 mul-least : tie.Need-mul-least
 mul-least c = omega (arith, mul-le-mul {n₁ = c .before .args .i} {m₁ = c .before .args .s .k} (c .before .pre .1) (c .before .pre .0 .bounded .range .choice .k-high))
