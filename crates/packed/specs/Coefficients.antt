@@ -6,6 +6,8 @@
 --                               8 with that place, for one list and for two
 --     coefficient-check, coefficients-check
 --                               they pass exactly where every coefficient is below p
+--     ChecksCoefficients p xs ys r
+--                               the promise of check_coefficients; check-coefficients-once: it allows one answer only
 --     NoneAbove most xs         no coefficient is above most
 --     taken p xs                what packing takes of a list: the list itself; takenOne p x, of one coefficient
 --     taken-length, taken-at, taken-join, taken-below, taken-low, taken-operand
@@ -27,6 +29,8 @@ use Rattle.polynomials.specs.Lists.{coefficient, Below, Operand}
 use Rattle.polynomials.specs.ListLaws.{coefficient-past}
 use Rattle.packed.specs.Answers.{Verdict, fine, refuse}
 use Rattle.packed.specs.AnswerLaws.{passed-last}
+use Rattle.packed.specs.Settings.{checkedSays, checked-once}
+use Rattle.packed.specs.declared.setting.Checked.{Checked}
 
 abbrev pub tooLarge : ℕ → List ℕ → ℕ → Bool
 tooLarge p xs i = leb p (coefficient xs i)
@@ -45,6 +49,12 @@ coefficientCheck p xs = refuse (ltb (firstBad p xs) (length xs)) 8 (firstBad p x
 
 abbrev pub coefficientsCheck : ℕ → List ℕ → List ℕ → Verdict
 coefficientsCheck p xs ys = refuse (ltb (firstBadOfTwo p xs ys) (length xs + length ys)) 8 (firstBadOfTwo p xs ys)
+
+abbrev pub ChecksCoefficients : ℕ → List ℕ → List ℕ → Checked → Type 0
+ChecksCoefficients p xs ys r = checkedSays r ≡ coefficientsCheck p xs ys
+
+pub check-coefficients-once : (p : ℕ) (xs ys : List ℕ) (a b : Checked) → ChecksCoefficients p xs ys a → ChecksCoefficients p xs ys b → a ≡ b
+check-coefficients-once p xs ys a b = checked-once a b (coefficientsCheck p xs ys)
 
 -- no index is bad exactly where every coefficient is below p, also the zeros past the end
 none-bad : (p : ℕ) (xs : List ℕ) → 0 < p → (length xs ≤ firstBad p xs) ↔ Below p xs

@@ -7,13 +7,14 @@
 --     narrowCause s     5 Narrow: 2^t <= n k (p-1)^2
 --     roomCause s       6 Room: (2k-1) t >= 64
 -- 5 and 6 are condition (2) of document 003 with 64 bits. 7 stands in Choices, 8 in Coefficients, 9 in Places, Products and Running, 10 in SharedAnswers,
--- 11 in Places, 12 and 13 in Running, 14 and 15 in Tables, 18 in Overflow.
+-- 11 in Places, 12 and 13 in Running, 14 and 15 in Tables, 18 in Overflow; 16, and 11, 12 and 13 of the double lane, in the crate `lane`.
 --     settingChecks     check a setting: 1 to 6 in order
 --     base s            q = 2^t
 --     places s          2k-1, the fields of a product
 --     InChoice p k n    what 1 to 3 leave
 --     InRange s         what 1 to 4 leave
 --     checkedSays       the number and place that each case of check's answer stands for; checkedOf, the way back
+--     checked-once      one acceptance, or one refusal
 --     Checks s r        the promise of check; check-once: it allows one answer only
 use Prim.Native.Nat.{ℕ, _-_, _*_, _^_, _≤_}
 use mathlib.Core.Path.{_≡_, refl}
@@ -96,5 +97,8 @@ checked-back : (r : Checked) → checkedOf (checkedSays r) ≡ r
 checked-back Accepted = refl
 checked-back (Refused r) = refl
 
+pub checked-once : (a b : Checked) (v : Verdict) → checkedSays a ≡ v → checkedSays b ≡ v → a ≡ b
+checked-once = once checkedSays checkedOf checked-back
+
 pub check-once : (s : Setting) (a b : Checked) → Checks s a → Checks s b → a ≡ b
-check-once s a b = once checkedSays checkedOf checked-back a b (settingChecks s)
+check-once s a b = checked-once a b (settingChecks s)

@@ -2,6 +2,7 @@
 pub mod answers;
 mod batches;
 mod blocks;
+pub mod coefficients;
 mod columns;
 mod entries;
 mod limits;

@@ -12,6 +12,7 @@ use crate::answers::Wrote;
 use crate::blocks::block_count;
 use crate::blocks::pack_back;
 use crate::blocks::pack_blocks;
+use crate::coefficients::check_coefficients;
 use crate::columns::gather;
 use crate::columns::write_remainders;
 use crate::limits::LONGEST_FACTOR;
@@ -19,7 +20,6 @@ use crate::refusals;
 use crate::setting::Checked;
 use crate::setting::Setting;
 use crate::setting::check;
-use crate::words::first_bad_of_two;
 
 // The longest list that is worked in short arrays.
 const SHORT_FACTOR: usize = 256;
@@ -55,9 +55,8 @@ fn check_factors(s: Setting, a: &[u16], b: &[u16], len: usize) -> Checked
     if LONGEST_FACTOR < b.len() {
         return Checked::Refused(refusals::SHAPE);
     }
-    let bad = first_bad_of_two(s.p, a, b);
-    if bad < a.len() + b.len() {
-        return Checked::Refused(refusals::coefficient(bad));
+    if let Checked::Refused(r) = check_coefficients(s.p, a, b) {
+        return Checked::Refused(r);
     }
     if len < product_length(a.len(), b.len()) {
         return Checked::Refused(refusals::SHORT);

@@ -71,6 +71,11 @@ pub const NO_TABLE: Refusal = Refusal {
     place: 0,
 };
 
+pub const LANE: Refusal = Refusal {
+    number: 16,
+    place: 0,
+};
+
 pub const OVERFLOW: Refusal = Refusal {
     number: 18,
     place: 0,

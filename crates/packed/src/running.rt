@@ -7,13 +7,13 @@ ghost use Rattle.packed.specs.Running.{recordCause, sumCause, residueMos
 use crate::batches::add_pairs;
 use crate::batches::add_residues;
 use crate::blocks::block_count;
+use crate::coefficients::check_coefficients;
 use crate::limits::MOST_PAIRS;
 use crate::refusals;
 use crate::refusals::Refusal;
 use crate::setting::Checked;
 use crate::setting::Setting;
 use crate::setting::check;
-use crate::words::first_bad_of_two;
 use crate::words::least;
 use crate::words::places;
 use crate::words::power;
@@ -133,11 +133,7 @@ fn check_pairs(running: Record, xs: &[u16], ys: &[u16]) -> Checked
     if MOST_PAIRS < sum.total + xs.len() as u64 / s.k {
         return Checked::Refused(refusals::FULL);
     }
-    let bad = first_bad_of_two(s.p, xs, ys);
-    if bad < xs.len() + ys.len() {
-        return Checked::Refused(refusals::coefficient(bad));
-    }
-    Checked::Accepted
+    check_coefficients(s.p, xs, ys)
 }
 
 // 12, 10, where a list of len elements is lent for the coefficients.

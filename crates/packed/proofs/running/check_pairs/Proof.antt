@@ -1,18 +1,18 @@
 -- `check_pairs` meets its contract. Assumes nothing.
-use Prim.Native.Nat.{ℕ, _+_, _*_, _/_, _%_, _≤_, _<_}
+use Prim.Native.Nat.{ℕ, _+_, _/_, _%_, _≤_, _<_}
 use mathlib.Core.Path.{_≡_, sym, _∙_}
 use mathlib.Core.Bool.{true, false}
 use mathlib.Core.List.{List}
-use native.Mathlib.Nat.{div-add-mod', mul-le-mul, div-le-self}
+use native.Mathlib.Nat.{div-le-self}
 use native.Mathlib.Omega.{arith}
 use lib.ListN.{length}
 use denote.Ref.{now}
 use borrow.Author.Needs.{needs}
 use borrow.Author.Tests.{eq-eqb, ne-eqb, lt-ltb, le-ltb}
-use Rattle.packed.specs.Limits.{mostPairs, mostCoefficients}
-use Rattle.packed.specs.Answers.{refused, fine}
-use Rattle.packed.specs.Coefficients.{firstBadOfTwo}
-use Rattle.packed.specs.Bounds.{Bounds, bounds}
+use Rattle.packed.specs.Limits.{mostPairs}
+use Rattle.packed.specs.Answers.{refused}
+use Rattle.packed.specs.Coefficients.{coefficientsCheck}
+use Rattle.packed.specs.Bounds.{bounds}
 use Rattle.packed.specs.Running.{recordCause, Coherent, pairChecks}
 use Rattle.packed.specs.RunningLaws.{coherent-is}
 use Rattle.packed.specs.declared.running.Record.{Record}
@@ -42,21 +42,9 @@ module _ (r : Record) (xs ys : List ℕ) where
         at-13 h = rw (ok, eq-eqb (length xs) (length ys) same, eq-eqb (length xs % r .setting .k) 0 whole, lt-ltb mostPairs (r .sum .total + length xs / r .setting .k) h)
 
         module _ (few : r .sum .total + length xs / r .setting .k ≤ mostPairs) where
-          at-8 : firstBadOfTwo (r .setting .p) xs ys < length xs + length ys → refused 8 (firstBadOfTwo (r .setting .p) xs ys) ≡ pairChecks r xs ys
+          from-8 : coefficientsCheck (r .setting .p) xs ys ≡ pairChecks r xs ys
           unfolding pairChecks
-          at-8 h =
-              rw (ok, eq-eqb (length xs) (length ys) same, eq-eqb (length xs % r .setting .k) 0 whole, le-ltb mostPairs (r .sum .total + length xs / r .setting .k) few, lt-ltb (firstBadOfTwo (r .setting .p) xs ys) (length xs + length ys) h)
-
-          at-end : length xs + length ys ≤ firstBadOfTwo (r .setting .p) xs ys → fine ≡ pairChecks r xs ys
-          unfolding pairChecks
-          at-end h =
-              rw (ok, eq-eqb (length xs) (length ys) same, eq-eqb (length xs % r .setting .k) 0 whole, le-ltb mostPairs (r .sum .total + length xs / r .setting .k) few, le-ltb (firstBadOfTwo (r .setting .p) xs ys) (length xs + length ys) h)
-
-          -- so many pairs are not so many coefficients
-          near : Bounds (r .setting) → length xs ≤ mostPairs * mostCoefficients
-          near b =
-              let k = r .setting .k in
-              omega (arith, div-add-mod' (length xs) k, mul-le-mul {n₁ = length xs / k} {m₁ = k} {n₂ = mostPairs} {m₂ = mostCoefficients} (omega arith) (b .range .choice .k-high))
+          from-8 = rw (ok, eq-eqb (length xs) (length ys) same, eq-eqb (length xs % r .setting .k) 0 whole, le-ltb mostPairs (r .sum .total + length xs / r .setting .k) few)
 
 -- ---- what is known past each check
 
@@ -65,9 +53,6 @@ coherent c = sym (c .before .before .record-cause .ensures) ∙ c .before .if1 .
 
 held : (c : tie.After-s) → Coherent (c .before .before .before .before .before .args .running .setting) (c .before .before .before .before .before .args .running .sum)
 held c = coherent-is (c .before .before .before .before .before .args .running) .0 (coherent c)
-
-length-near : (c : tie.Else4) → length (now (c .before .before .before .before .before .before .before .before .before .before .before .before .args .xs)) ≤ mostPairs * mostCoefficients
-length-near c = near (c .before .before .before .before .before .before .before .before .before .before .before .before .args .running) (now (c .before .before .before .before .before .before .before .before .before .before .before .before .args .xs)) (now (c .before .before .before .before .before .before .before .before .before .before .before .before .args .ys)) (coherent (c .before .before .before .before .before .before .before)) (c .before .before .before .before .before .before .if2 .left) (c .before .before .before .before .if3 .left) (c .if4 .left) (bounds _ (held (c .before .before .before .before .before .before .before) .accepted))
 
 -- ---- the needs
 
@@ -97,23 +82,13 @@ add-if4 c =
 returns-4 : tie.Need-returns-4
 returns-4 c = at-13 (c .before .before .before .before .before .before .before .before .before .before .before .before .args .running) (now (c .before .before .before .before .before .before .before .before .before .before .before .before .args .xs)) (now (c .before .before .before .before .before .before .before .before .before .before .before .before .args .ys)) (coherent (c .before .before .before .before .before .before .before)) (c .before .before .before .before .before .before .if2 .left) (c .before .before .before .before .if3 .left) (c .if4 .taken)
 
-first-bad-of-two-requires : tie.Need-first-bad-of-two-requires
-first-bad-of-two-requires c κs = omega (arith, length-near c, c .before .before .before .before .before .before .if2 .left)
-
-add-if5 : tie.Need-add-if5
-add-if5 c = omega (arith, length-near (c .before), c .before .before .before .before .before .before .before .if2 .left)
-
-coefficient-requires : tie.Need-coefficient-requires
-coefficient-requires c κs = search needs
+check-coefficients-requires : tie.Need-check-coefficients-requires
+check-coefficients-requires c κs = search needs
 
 returns-5 : tie.Need-returns-5
 returns-5 c =
-    let found = c .before .before .first-bad-of-two .ensures in
-    rw (c .coefficient .ensures .0, c .coefficient .ensures .1, found)
-    (at-8 (c .before .before .before .before .before .before .before .before .before .before .before .before .before .before .before .args .running) (now (c .before .before .before .before .before .before .before .before .before .before .before .before .before .before .before .args .xs)) (now (c .before .before .before .before .before .before .before .before .before .before .before .before .before .before .before .args .ys)) (coherent (c .before .before .before .before .before .before .before .before .before .before)) (c .before .before .before .before .before .before .before .before .before .if2 .left) (c .before .before .before .before .before .before .before .if3 .left) (c .before .before .before .if4 .left) (rw found at (c .before .if5 .taken)))
-
-returns-6 : tie.Need-returns-6
-returns-6 c = at-end (c .before .before .before .before .before .before .before .before .before .before .before .before .before .before .args .running) (now (c .before .before .before .before .before .before .before .before .before .before .before .before .before .before .args .xs)) (now (c .before .before .before .before .before .before .before .before .before .before .before .before .before .before .args .ys)) (coherent (c .before .before .before .before .before .before .before .before .before)) (c .before .before .before .before .before .before .before .before .if2 .left) (c .before .before .before .before .before .before .if3 .left) (c .before .before .if4 .left) (rw (c .before .first-bad-of-two .ensures) at (c .if5 .left))
+    let d = c .before .before .before .before .before .before .before .before .before .before .before .before .before in
+    c .check-coefficients .ensures ∙ from-8 (d .args .running) (now (d .args .xs)) (now (d .args .ys)) (coherent (c .before .before .before .before .before .before .before .before)) (c .before .before .before .before .before .before .before .if2 .left) (c .before .before .before .before .before .if3 .left) (c .before .if4 .left)
 
 pub check-pairs-spec : {M : Type 1} → statement M
 check-pairs-spec =
@@ -127,8 +102,5 @@ check-pairs-spec =
     div-if4
     add-if4
     returns-4
-    first-bad-of-two-requires
-    add-if5
-    coefficient-requires
-    returns-5
-    returns-6)
+    check-coefficients-requires
+    returns-5)

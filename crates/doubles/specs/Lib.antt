@@ -1,0 +1,2 @@
+-- Doubles. Each file opens with its notions.
+pub mod Whole
