@@ -1,2 +1,10 @@
 -- Doubles. Each file opens with its notions.
 pub mod Whole
+pub mod Rounded
+pub mod Exactly
+pub mod Within
+pub mod Error
+pub mod Near
+pub mod Quotients
+pub mod Bits
+pub mod Words

@@ -3,17 +3,19 @@
 --     passed, passed-last     a value was answered, so this cause did not hold
 --     passed-first            a value was answered, so the checks before it refused nothing
 --     passed-over             another number was given, so this cause did not hold
+--     refuses-none            no refusal is one that passed
 --     once                    an answer is fixed by its numbers: two that say the same are equal
 --     left-length             a lent list keeps its length
 --     wrote-left              it starts with the elements that the answer counts
 use Prim.Native.Nat.{ℕ, _≤_}
 use mathlib.Core.Path.{_≡_, refl, sym, ap, _∙_}
-use mathlib.Core.Bool.{Bool, true, false}
+use mathlib.Core.Bool.{Bool, true, false, true≢false}
 use mathlib.Core.List.{List}
+use mathlib.Core.Logic.{_↔_}
 use native.Mathlib.Omega.{arith}
 use lib.ListN.{length, take, drop, length-append, length-drop}
 use lib.Seq.{take-append-seam}
-use Rattle.packed.specs.Answers.{Answer, answered, refused, Verdict, fine, refuse, _andThen_, wrote, leftBy}
+use Rattle.packed.specs.Answers.{Answer, answered, refused, Verdict, fine, refuse, refuses, _andThen_, wrote, leftBy}
 
 pub never : {A : Type 0} (number place : ℕ) (v : A) → refused number place ≡ answered v → ⊥
 never number place v e = let z : _≡_ {A = ℕ} 0 1 = cc in omega arith
@@ -35,6 +37,10 @@ pub passed-over : {A : Type 0} (cause : Bool) (number place : ℕ) (a : Answer A
     → (cause ≡ false) × (a ≡ refused n i)
 passed-over true number place a n i other e = absurd (other (cc))
 passed-over false number place a n i other e = (refl, e)
+
+pub refuses-none : (v : Verdict) → (refuses v ≡ false) ↔ (v ≡ fine)
+refuses-none (answered u) = (λ e. refl, λ e. refl)
+refuses-none (refused number place) = (λ e. absurd (true≢false e), λ e. absurd (never number place tt e))
 
 -- says gives the numbers of an answer's cases, and back takes them to the case again
 pub once : {E A : Type 0} (says : E → Answer A) (back : Answer A → E) → ((r : E) → back (says r) ≡ r) → (a b : E) (x : Answer A) → says a ≡ x → says b ≡ x → a ≡ b

@@ -1,6 +1,7 @@
 -- Words that each hold one packed polynomial, and the batches of their products. Assumes nothing.
 --     PackedWord s w, PackedWords s ws    w is the word of an operand; each of the words ws is
 --     taken-part                          what packing takes of the part of a list where block i stands is block i of what it takes of the list
+--     taken-block                         and so they pack to one number, where the block is whole
 --     packed-word                         the word of an operand is one
 --     worth s b ws i                      word i, as its polynomial packs in the base b
 --     columnWorth s b xs ys i j m         the sum of m products of words, from i in xs and from j in ys on, at that worth
@@ -22,8 +23,8 @@ use Rattle.polynomials.specs.Lists.{coefficient, part, Below, Operand, Pair, Pa
 use Rattle.polynomials.specs.ListLaws.{coefficient-past, coefficient-part}
 use Rattle.polynomials.specs.BoundLaws.{batch-most, batch-more, batch-past}
 use Rattle.polynomials.specs.Places.{packed, fields, sumOfWords}
-use Rattle.polynomials.specs.PlaceLaws.{fields-packed, one-power}
-use Rattle.polynomials.specs.Blocks.{block, pairsUpto, dot, spread}
+use Rattle.polynomials.specs.PlaceLaws.{packed-agree, fields-packed, one-power}
+use Rattle.polynomials.specs.Blocks.{block, blockAt, pairsUpto, dot, spread}
 use Rattle.polynomials.specs.BlockLaws.{coefficient-block, length-pairs, pairs-operands, words-of-pairs, spread-words}
 use Rattle.packed.specs.Settings.{base, places}
 use Rattle.packed.specs.Coefficients.{taken, taken-length, taken-at}
@@ -65,6 +66,10 @@ taken-part p k xs i start end j hs he = go (decLt j (end - start)) (decLt j k)
     go (no l) (no h) =
         coefficient-past (taken p (part start end xs)) j (simp (taken-length, length-take) (omega arith))
         ∙ sym (coefficient-past (block k (taken p xs) i) j (rw length-upto (omega arith)))
+
+pub taken-block : (q p k : ℕ) (xs : List ℕ) (i : ℕ) → i * k + k ≤ length xs → packed q (taken p (part (i * k) (i * k + k) xs)) ≡ blockAt q k (taken p xs) i
+taken-block q p k xs i h =
+    packed-agree q (taken p (part (i * k) (i * k + k) xs)) (block k (taken p xs) i) (λ j. taken-part p k xs i (i * k) (i * k + k) j (omega arith) (omega arith))
 
 pub packed-word : (s : Setting) (xs : List ℕ) → Bounds s → length xs ≡ s .k → Below (s .p) xs → PackedWord s (packed (base s) xs)
 packed-word s xs b size below =

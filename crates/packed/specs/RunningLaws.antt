@@ -11,7 +11,7 @@
 --     coherent-after       a coherent record stays coherent
 use Prim.Native.Nat.{ℕ, suc, _+_, _-_, _*_, _%_, _^_, _≤_, _<_, zero-le}
 use mathlib.Core.Path.{_≡_, refl, sym, ap, _∙_}
-use mathlib.Core.Bool.{Bool, true, false, true≢false, _||_}
+use mathlib.Core.Bool.{Bool, true, false, _||_}
 use mathlib.Core.List.{List, [], _∷_, _++_}
 use mathlib.Core.Logic.{_↔_}
 use mathlib.Mathlib.Data.Bool.Basic.{or-eq-false-eq-eq-false-and-eq-false}
@@ -22,31 +22,27 @@ use lib.Dec.{ltb, eqb}
 use lib.ListN.{length}
 use lib.Pow.{pow-pos}
 use borrow.Author.Tests.{eq-eqb, ne-eqb, lt-ltb, le-ltb, ltb-false, lt-leb, leb-false}
-use Rattle.polynomials.specs.Indices.{pick, upto, filled}
-use Rattle.polynomials.specs.IndexLaws.{length-upto, upto-at, upto-past, upto-most, exceeds-none}
+use Rattle.polynomials.specs.Indices.{pick, filled}
+use Rattle.polynomials.specs.IndexLaws.{upto-at, upto-past, exceeds-none}
 use Rattle.polynomials.specs.Lists.{coefficient, sum, product, Below, Within, Pair, Pairs, sumOfProducts, batchMost, productMost}
 use Rattle.polynomials.specs.ListLaws.{coefficient-past, coefficient-sum, filled-at, filled-after}
-use Rattle.polynomials.specs.BoundLaws.{batch-most, batch-more, batch-past}
+use Rattle.polynomials.specs.BoundLaws.{batch-most, batch-more}
 use Rattle.polynomials.specs.Places.{packed, field, fields, sumOfWords}
-use Rattle.polynomials.specs.PlaceLaws.{packed-fields, packed-sum, packed-agree, packed-sumOfProducts, packed-below, field-packed}
+use Rattle.polynomials.specs.PlaceLaws.{packed-fields, packed-sum, packed-sumOfProducts, field-packed}
 use Rattle.polynomials.specs.PairLaws.{remainder-next, remainder-full}
 use Rattle.packed.specs.Limits.{mostPairs}
-use Rattle.packed.specs.Answers.{answered, refused, Verdict, fine, refuses}
-use Rattle.packed.specs.AnswerLaws.{never}
+use Rattle.packed.specs.Answers.{fine, refuses}
+use Rattle.packed.specs.AnswerLaws.{refuses-none}
 use Rattle.packed.specs.Settings.{settingChecks, base, places, spanOf}
 use Rattle.packed.specs.Bounds.{Bounds, bounds}
 use Rattle.packed.specs.Places.{wordCause}
-use Rattle.packed.specs.WordLaws.{span-power}
+use Rattle.packed.specs.WordLaws.{span-power, within-span}
 use Rattle.packed.specs.Running.{openPairs, residueMost, residuesCause, fieldMost, fieldsCause, sumCause, recordCause, Coherent, closingAt, split, withPair, afterPair, afterPairs}
 use Rattle.packed.specs.declared.setting.Setting.{Setting}
 use Rattle.packed.specs.declared.running.Sum.{Sum}
 use Rattle.packed.specs.declared.running.Record.{Record}
 
 -- ---- 12
-
-refuses-none : (v : Verdict) → (refuses v ≡ false) ↔ (v ≡ fine)
-refuses-none (answered u) = (λ e. refl, λ e. refl)
-refuses-none (refused number place) = (λ e. absurd (true≢false e), λ e. absurd (never number place tt e))
 
 pub residue-within : (s : Setting) (u : Sum) → Coherent s u → (j : ℕ) → coefficient (u .residues) j ≤ residueMost s j
 residue-within s u h j = go (decLt j (places s))
@@ -150,18 +146,7 @@ module _ (s : Setting) (u : Sum) (h : Coherent s u) where
     field-bound j = rw (more-word, field-packed (base s) more more-below j) (more-most j)
 
     more-span : u .word + sumOfWords (base s) cs < 2 ^ spanOf s
-    more-span =
-        let xs : List ℕ = upto (places s) (coefficient more) in
-        let same : packed (base s) more ≡ packed (base s) xs = packed-agree (base s) more xs (λ j. at j (decLt j (places s))) in
-        let below : packed (base s) xs < base s ^ length xs = packed-below (base s) xs (λ j. lt-of-le-of-lt (upto-most (places s) (coefficient more) j) (more-below j)) in
-        let size : length xs ≡ places s = length-upto (places s) (coefficient more) in
-        rw (more-word, same, span-power s) (rw size at below)
-      where
-        at : (j : ℕ) → Dec (j < places s) → coefficient more j ≡ coefficient (upto (places s) (coefficient more)) j
-        at j (yes l) = sym (upto-at (places s) (coefficient more) j l)
-        at j (no l) =
-            let none : coefficient more j ≤ 0 = rw (batch-past (s .p) (s .k) (openPairs s u + length cs) j (omega arith)) at (more-most j) in
-            omega (arith, upto-past (places s) (coefficient more) j (omega arith))
+    more-span = rw more-word (within-span s more (bounds s (h .accepted)) full-most)
 
 -- ---- pairs
 

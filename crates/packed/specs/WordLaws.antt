@@ -1,19 +1,27 @@
 -- Words that 11 takes. Assumes nothing.
 --     span-power       2^((2k-1)t) is q^(2k-1)
+--     within-span      the word of a batch of at most n products is below it
 --     word-top         11, told by what stands from the last place on
 --     WordFits s w     the setting has its bounds, and the word is below q^(2k-1)
 --     word-checked     so it is where nothing is refused up to 11
 --     places-checked   and up to 10, where the list lent is long enough too
 use Prim.Native.Nat.{ℕ, suc, _-_, _*_, _/_, _^_, _≤_, _<_}
 use mathlib.Core.Path.{_≡_, sym}
+use mathlib.Core.List.{List}
 use mathlib.Core.Logic.{_↔_}
-use native.Mathlib.Nat.{lt-of-not-le}
-use native.Mathlib.Decide.{decLe}
+use native.Mathlib.Nat.{lt-of-not-le, lt-of-le-of-lt}
+use native.Mathlib.Decide.{decLt, decLe}
 use native.Mathlib.Omega.{arith}
 use lib.Dec.{leb}
+use lib.ListN.{length}
 use lib.Pow.{pow-pos}
 use borrow.Author.Tests.{le-leb, lt-leb, leb-false, ltb-false}
-use Rattle.polynomials.specs.PlaceLaws.{top-place, power-power}
+use Rattle.polynomials.specs.Indices.{upto}
+use Rattle.polynomials.specs.IndexLaws.{length-upto, upto-at, upto-past, upto-most}
+use Rattle.polynomials.specs.Lists.{coefficient, Below, Within, batchMost}
+use Rattle.polynomials.specs.BoundLaws.{batch-past}
+use Rattle.polynomials.specs.Places.{packed}
+use Rattle.polynomials.specs.PlaceLaws.{packed-agree, packed-below, top-place, power-power}
 use Rattle.packed.specs.Answers.{fine, refuse}
 use Rattle.packed.specs.AnswerLaws.{passed-first, passed-last}
 use Rattle.packed.specs.SharedAnswers.{shortCause}
@@ -24,6 +32,21 @@ use Rattle.packed.specs.declared.setting.Setting.{Setting}
 
 pub span-power : (s : Setting) → 2 ^ spanOf s ≡ base s ^ places s
 span-power s = sym (power-power 2 (s .t) (places s))
+
+pub within-span : (s : Setting) (xs : List ℕ) → Bounds s → Within (batchMost (s .p) (s .k) (s .n)) xs → packed (base s) xs < 2 ^ spanOf s
+within-span s xs b w =
+    let ys : List ℕ = upto (places s) (coefficient xs) in
+    let low : Below (base s) xs = λ j. lt-of-le-of-lt (w j) (b .field-fits j) in
+    let same : packed (base s) xs ≡ packed (base s) ys = packed-agree (base s) xs ys (λ j. at j (decLt j (places s))) in
+    let below : packed (base s) ys < base s ^ length ys = packed-below (base s) ys (λ j. lt-of-le-of-lt (upto-most (places s) (coefficient xs) j) (low j)) in
+    let size : length ys ≡ places s = length-upto (places s) (coefficient xs) in
+    rw (same, span-power s) (rw size at below)
+  where
+    at : (j : ℕ) → Dec (j < places s) → coefficient xs j ≡ coefficient (upto (places s) (coefficient xs)) j
+    at j (yes l) = sym (upto-at (places s) (coefficient xs) j l)
+    at j (no l) =
+        let none : coefficient xs j ≤ 0 = rw (batch-past (s .p) (s .k) (s .n) j (omega arith)) at (w j) in
+        omega (arith, upto-past (places s) (coefficient xs) j (omega arith))
 
 pub word-top : (s : Setting) (w : ℕ) → 1 ≤ s .k → wordCause s w ≡ leb (base s) (w / 2 ^ ((2 * s .k - 2) * s .t))
 word-top s w h = rw (span-power s, ← power-power 2 (s .t) m, last) (go (decLe (base s ^ suc m) w))

@@ -5,16 +5,14 @@ use mathlib.Core.List.{List}
 use native.Mathlib.Nat.{mul-le-mul-right, le-mul-of-pos-right, suc-mul, add-zero}
 use native.Mathlib.Numerals.{add-one}
 use native.Mathlib.Omega.{arith}
-use lib.ListN.{length}
 use denote.Ref.{now}
 use borrow.Author.Needs.{needs}
 use Rattle.polynomials.specs.IndexLaws.{sum-fewer}
 use Rattle.polynomials.specs.Lists.{part}
 use Rattle.polynomials.specs.Places.{packed}
-use Rattle.polynomials.specs.PlaceLaws.{packed-agree}
-use Rattle.polynomials.specs.Blocks.{block, blockAt}
+use Rattle.polynomials.specs.Blocks.{blockAt}
 use Rattle.packed.specs.Coefficients.{taken}
-use Rattle.packed.specs.BatchLaws.{taken-part}
+use Rattle.packed.specs.BatchLaws.{taken-block}
 use Rattle.packed.specs.Feeding.{products, Multiplying}
 use Rattle.packed.proofs.batches.add_words.Statement.{statement}
 use Rattle.packed.proofs.batches.add_words.Tie as tie
@@ -26,11 +24,6 @@ abbrev μ-loop : tie.MeasureT-loop
 μ-loop p t k xs ys i count word size sum₀ r₀ sum r = count - r
 
 -- ---- on plain values
-
--- the part of a list where pair i stands is its block
-same : (p t k : ℕ) (xs : List ℕ) (i : ℕ) → i * k + k ≤ length xs → packed (2 ^ t) (taken p (part (i * k) (i * k + k) xs)) ≡ blockAt (2 ^ t) k (taken p xs) i
-same p t k xs i h =
-    packed-agree (2 ^ t) (taken p (part (i * k) (i * k + k) xs)) (block k (taken p xs) i) (λ j. taken-part p k xs i (i * k) (i * k + k) j (omega arith) (omega arith))
 
 module _ {p t k : ℕ} {xs ys : List ℕ} {i m word : ℕ} (pre : Multiplying p t k xs ys i m word) {r sum : ℕ} (l : r < m) (e : sum ≡ word + products p t k xs ys i r) where
   inside : (i + r) * k + k ≤ (i + m) * k
@@ -46,8 +39,8 @@ module _ {p t k : ℕ} {xs ys : List ℕ} {i m word : ℕ} (pre : Multiplying p 
   module _ {x y : ℕ} (hx : x ≡ packed (2 ^ t) (taken p (part ((i + r) * k) ((i + r) * k + k) xs))) (hy : y ≡ packed (2 ^ t) (taken p (part ((i + r) * k) ((i + r) * k + k) ys))) where
     turn : sum + x * y ≡ word + products p t k xs ys i (r + 1)
     turn =
-        let left : x ≡ blockAt (2 ^ t) k (taken p xs) (i + r) = hx ∙ same p t k xs (i + r) (omega (arith, inside, pre .left-room)) in
-        let right : y ≡ blockAt (2 ^ t) k (taken p ys) (i + r) = hy ∙ same p t k ys (i + r) (omega (arith, inside, pre .right-room)) in
+        let left : x ≡ blockAt (2 ^ t) k (taken p xs) (i + r) = hx ∙ taken-block (2 ^ t) p k xs (i + r) (omega (arith, inside, pre .left-room)) in
+        let right : y ≡ blockAt (2 ^ t) k (taken p ys) (i + r) = hy ∙ taken-block (2 ^ t) p k ys (i + r) (omega (arith, inside, pre .right-room)) in
         rw (add-one r, e, left, right) (omega arith)
 
     room : sum + x * y < 2 ^ 64
@@ -84,7 +77,7 @@ pack-taken-requires c κs =
     let a = c .before .before .before .before .before .args in
     let pre = c .before .before .before .before .before .pre in
     let pair = a .i + c .before .before .loop .r in
-    (pre .p-low, pre .width, rw (same (a .p) (a .t) (a .k) (now (a .xs)) pair (omega (arith, inside (c .before .before .before .before .before .pre) (c .before .loop-test .taken) (c .before .before .loop .inv .1), pre .left-room))) (omega (arith, pre .left-fits pair)))
+    (pre .p-low, pre .width, rw (taken-block (2 ^ a .t) (a .p) (a .k) (now (a .xs)) pair (omega (arith, inside (c .before .before .before .before .before .pre) (c .before .loop-test .taken) (c .before .before .loop .inv .1), pre .left-room))) (omega (arith, pre .left-fits pair)))
 
 add-pack-taken-2 : tie.Need-add-pack-taken-2 Inv-loop μ-loop
 add-pack-taken-2 c = omega (arith, near (c .before .before .before .before .before .before .pre) (c .before .before .loop-test .taken) (c .before .before .before .loop .inv .1))
@@ -106,7 +99,7 @@ pack-taken-requires-2 c κs =
     let a = c .before .before .before .before .before .before .before .args in
     let pre = c .before .before .before .before .before .before .before .pre in
     let pair = a .i + c .before .before .before .before .loop .r in
-    (pre .p-low, pre .width, rw (same (a .p) (a .t) (a .k) (now (a .ys)) pair (omega (arith, inside (c .before .before .before .before .before .before .before .pre) (c .before .before .before .loop-test .taken) (c .before .before .before .before .loop .inv .1), pre .right-room))) (omega (arith, pre .right-fits pair)))
+    (pre .p-low, pre .width, rw (taken-block (2 ^ a .t) (a .p) (a .k) (now (a .ys)) pair (omega (arith, inside (c .before .before .before .before .before .before .before .pre) (c .before .before .before .loop-test .taken) (c .before .before .before .before .loop .inv .1), pre .right-room))) (omega (arith, pre .right-fits pair)))
 
 mul-sum : tie.Need-mul-sum Inv-loop μ-loop
 mul-sum c = omega (arith, room (c .before .before .before .before .before .before .before .before .pre) (c .before .before .before .before .loop-test .taken) (c .before .before .before .before .before .loop .inv .1) (c .before .before .pack-taken .ensures) (c .pack-taken2 .ensures))
