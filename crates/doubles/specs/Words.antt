@@ -3,6 +3,7 @@
 --     minusZero        the bits of -0, for which 0.0 <= x holds too
 --     Tested x         x has passed the tests that stand before the cut
 --     whole-tested     a whole number in the range passes them
+--     from-zero-number the first of them leaves out a NaN
 --     tested-cut       what passes them may be cut
 --     tested-number    to a number in the range
 --     tested-whole     and the last test passes exactly for a whole number
@@ -74,6 +75,12 @@ within (fin true (suc m) e) t =
 within (fin false m e) t =
     let below = ltb-true (m * up e * 1) (1 * quotientBelow * down e) (t .short) in
     record { fraction = (refl, refl); least = omega arith; short = omega arith }
+
+pub from-zero-number : (x : Float) → le (double 0) x ≡ true → isNan x ≡ false
+unfolding le isNan ofInt
+from-zero-number nan e = absurd (false≢true e)
+from-zero-number (inf s) e = refl
+from-zero-number (fin s m g) e = refl
 
 pub tested-cut : {x : Float} → Tested x → T (lt (fin true 1 (pos 0)) x) × T (lt x (fin false 1 (pos 64)))
 tested-cut {x} t = within-may-cut (within x t) (lit≤ tt)

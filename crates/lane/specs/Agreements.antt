@@ -1,0 +1,116 @@
+-- What the crates above can rely on: the promises of sum and reduce, in the schoolbook's words and in those of the library. Assumes nothing.
+--     SumAnswer s xs ys x     x holds the packed word of the schoolbook sums exactly, and its fields are their coefficients
+--     sum-schoolbook          so it is with every word that a lane sum answers
+--     sum-reduces             reduce takes it
+--     reduce-agrees           a word that reduce answers is the word that the library's reduce answers of the same number, held exactly
+--     sum-reduced             sum, then reduce: the fields are the schoolbook sums modulo p
+use Prim.Native.Nat.{ℕ, _%_, _^_, _<_, _≤_}
+use mathlib.Core.Path.{_≡_, sym, ap, _∙_}
+use mathlib.Core.Bool.{false, not}
+use mathlib.Core.List.{List}
+use mathlib.Mathlib.Data.Bool.Basic.{or-eq-false-eq-eq-false-and-eq-false}
+use native.Mathlib.Omega.{arith}
+use lib.Pow.{pow-pos}
+use lib.Ieee.{Float}
+use borrow.Author.Tests.{lt-leb, leb-false}
+use Rattle.polynomials.specs.Lists.{coefficient, sumOfProducts}
+use Rattle.polynomials.specs.Places.{packed, field}
+use Rattle.polynomials.specs.ReductionLaws.{reduced-most, field-reduced}
+use Rattle.doubles.specs.Whole.{double, number, isWhole, Held}
+use Rattle.doubles.specs.Exactly.{held, held-number, held-whole}
+use Rattle.packed.specs.Answers.{Answer, answered, refused, fine, refuse}
+use Rattle.packed.specs.AnswerLaws.{passed, passed-first, passed-last}
+use Rattle.packed.specs.SharedAnswers.{packed-once}
+use Rattle.packed.specs.Settings.{settingChecks, base, places, spanOf}
+use Rattle.packed.specs.Places.{wordCause, wordChecks, reducedWord, reduceAnswer, Reduces}
+use Rattle.packed.specs.Running.{fedPairs}
+use Rattle.packed.specs.DemandThree.{batch-fields}
+use Rattle.packed.specs.declared.setting.Setting.{Setting}
+use Rattle.packed.specs.declared.answers.Packed.{Packed}
+use Rattle.packed.specs.declared.answers.Packed.the-variants as inPacked
+use Rattle.lane.specs.Lanes.{laneCause, makeChecks, heldCause, improperCause, sumChecks, sumWord, reduceChecks, LaneSums, LaneReduces}
+use Rattle.lane.specs.LaneLaws.{held-checked, held-within, word-small}
+use Rattle.lane.specs.SumLaws.{Listed, listed, fed-operands, fed-few, word-fits, sum-small}
+use Rattle.lane.specs.declared.Lane.{Lane}
+use Rattle.lane.specs.declared.LaneAnswer.the-variants as inLane
+
+value-is : {x y : Float} → answered x ≡ answered y → x ≡ y
+value-is e = ap (λ (a : Answer Float). value a) e
+  where
+    value : Answer Float → Float
+    value (answered z) = z
+    value (refused number place) = double 0
+
+accepted : (l : Lane) → heldCause l ≡ false → settingChecks (l .setting) ≡ fine
+unfolding makeChecks
+accepted l e = passed-first (settingChecks (l .setting)) (refuse (laneCause (l .setting)) 16 0) tt (held-checked l e) .0
+
+-- ---- sum
+
+pub record SumAnswer (s : Setting) (xs ys : List ℕ) (x : Float) : Type 0 where
+  pub word : Held x (packed (base s) (sumOfProducts (fedPairs s xs ys)))
+  pub fields : (j : ℕ) → field (base s) (number x) j ≡ coefficient (sumOfProducts (fedPairs s xs ys)) j
+
+module _ (l : Lane) (xs ys : List ℕ) (x : Float) (promise : LaneSums l xs ys (inLane.Word x)) where
+  sum-told : (sumChecks l xs ys ≡ fine) × (answered (double (sumWord (l .setting) xs ys)) ≡ answered x)
+  sum-told = passed-first (sumChecks l xs ys) (answered (double (sumWord (l .setting) xs ys))) x (sym promise)
+
+  lists : Listed (l .setting) xs ys
+  lists = listed l xs ys (sum-told .0)
+
+  made : heldCause l ≡ false
+  unfolding sumChecks
+  made = passed (heldCause l) 12 0 _ tt (sum-told .0) .0
+
+  holds : Held x (sumWord (l .setting) xs ys)
+  holds = rw (value-is (sum-told .1)) at (held (sumWord (l .setting) xs ys) (omega (arith, sum-small lists)))
+
+  pub sum-schoolbook : SumAnswer (l .setting) xs ys x
+  sum-schoolbook = record {
+    word = holds;
+    fields = λ j. rw (held-number holds) (batch-fields (l .setting) (accepted l made) (fedPairs (l .setting) xs ys) (fed-operands lists) (fed-few lists) j);
+  }
+
+  pub sum-reduces : reduceChecks l x ≡ fine
+  unfolding reduceChecks
+  sum-reduces = rw (made, held-whole holds, held-number holds, lt-leb (2 ^ spanOf (l .setting)) (sumWord (l .setting) xs ys) (word-fits lists))
+
+-- ---- reduce
+
+module _ (l : Lane) (x y : Float) (promise : LaneReduces l x (inLane.Word y)) where
+  abbrev s : Setting
+  s = l .setting
+
+  reduce-told : (reduceChecks l x ≡ fine) × (answered (double (reducedWord s (number x))) ≡ answered y)
+  reduce-told = passed-first (reduceChecks l x) (answered (double (reducedWord s (number x)))) y (sym promise)
+
+  checked : (heldCause l ≡ false) × (improperCause s x ≡ false)
+  unfolding reduceChecks
+  checked =
+      let a = passed (heldCause l) 12 0 (refuse (improperCause s x) 11 0) tt (reduce-told .0) in
+      (a .0, passed-last (improperCause s x) 11 0 (a .1))
+
+  proper : wordCause s (number x) ≡ false
+  proper = or-eq-false-eq-eq-false-and-eq-false (not (isWhole x)) (wordCause s (number x)) .0 (checked .1) .1
+
+  short : reducedWord s (number x) ≤ number x
+  short = reduced-most (s .p) (base s) (places s) (number x) (pow-pos (s .t))
+
+  pub reduced-holds : Held y (reducedWord s (number x))
+  reduced-holds =
+      rw (value-is (reduce-told .1)) at (held (reducedWord s (number x)) (omega (arith, short, word-small (held-within l (checked .0)) (number x) (leb-false (2 ^ spanOf s) (number x) proper))))
+
+  pub reduce-agrees : (r : Packed) → Reduces s (number x) r → r ≡ inPacked.Word (number y)
+  unfolding reduceAnswer wordChecks
+  reduce-agrees r h =
+      packed-once r (inPacked.Word (number y)) (reduceAnswer s (number x)) h
+      (rw (accepted l (checked .0), proper) (ap (λ (n : ℕ). answered n) (held-number reduced-holds)))
+
+  pub reduce-fields : (j : ℕ) → j < places s → field (base s) (number y) j ≡ field (base s) (number x) j % s .p
+  reduce-fields j h = rw (held-number reduced-holds) (field-reduced (s .p) (base s) (places s) (number x) j (pow-pos (s .t)) h)
+
+-- ---- both
+
+pub sum-reduced : (l : Lane) (xs ys : List ℕ) (x y : Float) → LaneSums l xs ys (inLane.Word x) → LaneReduces l x (inLane.Word y)
+    → (j : ℕ) → j < places (l .setting) → field (base (l .setting)) (number y) j ≡ coefficient (sumOfProducts (fedPairs (l .setting) xs ys)) j % l .setting .p
+sum-reduced l xs ys x y a b j h = reduce-fields l x y b j h ∙ ap (λ (n : ℕ). n % l .setting .p) (sum-schoolbook l xs ys x a .fields j)

@@ -1,0 +1,25 @@
+// Sums, differences and products of whole numbers in doubles. What each asks keeps its result below 2^53, where a double holds it exactly: sum
+// and reduce form no double but by these, by a cast of a whole number, and by the one product that is rounded, in `quotients`.
+ghost use Prim.Native.Nat.{_+_, _-_, _*_, _≤_, _<_};
+ghost use Rattle.doubles.specs.Whole.{exactBelow, number, Held, Exact};
+
+pub fn plus(x: f64, y: f64) -> f64
+    requires { ⌜ Exact x × Exact y × (number x + number y < exactBelow) ⌝ }
+    ensures { λ r. ⌜ Held r (number x + number y) ⌝ }
+{
+    x + y
+}
+
+pub fn less(x: f64, y: f64) -> f64
+    requires { ⌜ Exact x × Exact y × (number y ≤ number x) ⌝ }
+    ensures { λ r. ⌜ Held r (number x - number y) ⌝ }
+{
+    x - y
+}
+
+pub fn times(x: f64, y: f64) -> f64
+    requires { ⌜ Exact x × Exact y × (number x * number y < exactBelow) ⌝ }
+    ensures { λ r. ⌜ Held r (number x * number y) ⌝ }
+{
+    x * y
+}
