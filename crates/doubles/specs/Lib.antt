@@ -8,3 +8,4 @@ pub mod Near
 pub mod Quotients
 pub mod Bits
 pub mod Words
+pub mod Examples

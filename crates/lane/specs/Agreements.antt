@@ -10,6 +10,7 @@ use mathlib.Core.Bool.{false, not}
 use mathlib.Core.List.{List}
 use mathlib.Mathlib.Data.Bool.Basic.{or-eq-false-eq-eq-false-and-eq-false}
 use native.Mathlib.Omega.{arith}
+use lib.Dec.{leb}
 use lib.Pow.{pow-pos}
 use lib.Ieee.{Float}
 use borrow.Author.Tests.{lt-leb, leb-false}
@@ -22,7 +23,7 @@ use Rattle.packed.specs.Answers.{Answer, answered, refused, fine, refuse}
 use Rattle.packed.specs.AnswerLaws.{passed, passed-first, passed-last}
 use Rattle.packed.specs.SharedAnswers.{packed-once}
 use Rattle.packed.specs.Settings.{settingChecks, base, places, spanOf}
-use Rattle.packed.specs.Places.{wordCause, wordChecks, reducedWord, reduceAnswer, Reduces}
+use Rattle.packed.specs.Places.{wordChecks, reducedWord, reduceAnswer, Reduces}
 use Rattle.packed.specs.Running.{fedPairs}
 use Rattle.packed.specs.DemandThree.{batch-fields}
 use Rattle.packed.specs.declared.setting.Setting.{Setting}
@@ -90,21 +91,21 @@ module _ (l : Lane) (x y : Float) (promise : LaneReduces l x (inLane.Word y)) wh
       let a = passed (heldCause l) 12 0 (refuse (improperCause s x) 11 0) tt (reduce-told .0) in
       (a .0, passed-last (improperCause s x) 11 0 (a .1))
 
-  proper : wordCause s (number x) ≡ false
-  proper = or-eq-false-eq-eq-false-and-eq-false (not (isWhole x)) (wordCause s (number x)) .0 (checked .1) .1
+  below : number x < 2 ^ spanOf s
+  below = leb-false (2 ^ spanOf s) (number x) (or-eq-false-eq-eq-false-and-eq-false (not (isWhole x)) (leb (2 ^ spanOf s) (number x)) .0 (checked .1) .1)
 
   short : reducedWord s (number x) ≤ number x
   short = reduced-most (s .p) (base s) (places s) (number x) (pow-pos (s .t))
 
   pub reduced-holds : Held y (reducedWord s (number x))
   reduced-holds =
-      rw (value-is (reduce-told .1)) at (held (reducedWord s (number x)) (omega (arith, short, word-small (held-within l (checked .0)) (number x) (leb-false (2 ^ spanOf s) (number x) proper))))
+      rw (value-is (reduce-told .1)) at (held (reducedWord s (number x)) (omega (arith, short, word-small (held-within l (checked .0)) (number x) below)))
 
   pub reduce-agrees : (r : Packed) → Reduces s (number x) r → r ≡ inPacked.Word (number y)
   unfolding reduceAnswer wordChecks
   reduce-agrees r h =
       packed-once r (inPacked.Word (number y)) (reduceAnswer s (number x)) h
-      (rw (accepted l (checked .0), proper) (ap (λ (n : ℕ). answered n) (held-number reduced-holds)))
+      (rw (accepted l (checked .0), lt-leb (2 ^ spanOf s) (number x) below) (ap (λ (n : ℕ). answered n) (held-number reduced-holds)))
 
   pub reduce-fields : (j : ℕ) → j < places s → field (base s) (number y) j ≡ field (base s) (number x) j % s .p
   reduce-fields j h = rw (held-number reduced-holds) (field-reduced (s .p) (base s) (places s) (number x) j (pow-pos (s .t)) h)

@@ -14,7 +14,7 @@
 --                                  the promises of make, sum and reduce
 --     make-once, sum-once, reduce-once
 --                                  each allows one answer only; two doubles are equal where they are the same bits, as same-bits of `doubles` says
-use Prim.Native.Nat.{ℕ, _/_}
+use Prim.Native.Nat.{ℕ, _/_, _^_}
 use mathlib.Core.Path.{_≡_, refl}
 use mathlib.Core.Bool.{Bool, not, _||_}
 use mathlib.Core.List.{List}
@@ -28,7 +28,7 @@ use Rattle.packed.specs.Answers.{Answer, answered, refused, Verdict, refuse, re
 use Rattle.packed.specs.AnswerLaws.{once}
 use Rattle.packed.specs.Settings.{settingChecks, base, spanOf}
 use Rattle.packed.specs.Coefficients.{coefficientsCheck}
-use Rattle.packed.specs.Places.{wordCause, reducedWord}
+use Rattle.packed.specs.Places.{reducedWord}
 use Rattle.packed.specs.Running.{fedPairs, pairsCause}
 use Rattle.packed.specs.declared.setting.Setting.{Setting}
 use Rattle.lane.specs.declared.Lane.{Lane}
@@ -83,7 +83,7 @@ abbrev pub fullCause : ℕ → ℕ → Bool
 fullCause n pairs = ltb n pairs
 
 abbrev pub improperCause : Setting → Float → Bool
-improperCause s x = not (isWhole x) || wordCause s (number x)
+improperCause s x = not (isWhole x) || leb (2 ^ spanOf s) (number x)
 
 -- ---- sum
 

@@ -6,3 +6,4 @@ pub mod SumLaws
 pub mod QuotientLaws
 pub mod ResidueLaws
 pub mod Agreements
+pub mod Examples

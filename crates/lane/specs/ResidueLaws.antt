@@ -19,7 +19,7 @@ use mathlib.Core.Bool.{true, false, not}
 use mathlib.Mathlib.Data.Bool.Basic.{or-eq-false-eq-eq-false-and-eq-false}
 use native.Mathlib.Nat.{le-trans, mod-lt, mod-le, zero-mod, mod-eq-of-lt, add-mod-right, div-eq-of-lt, div-le-self, div-div-eq-div-mul, mul-div-le, mul-le-mul-left, mul-le-mul-right, pow-succ'}
 use native.Mathlib.Omega.{arith}
-use lib.Dec.{T, ltb}
+use lib.Dec.{T, ltb, leb}
 use lib.ListN.{drop, drop-of-length-le}
 use lib.Pow.{pow-pos}
 use lib.Ieee.{Float, binary64, fits, lt, ofBits}
@@ -34,7 +34,7 @@ use Rattle.doubles.specs.Exactly.{held, held-number, held-exact, whole-held, he
 use Rattle.packed.specs.Limits.{wordBits}
 use Rattle.packed.specs.Settings.{base, places, spanOf}
 use Rattle.packed.specs.Bounds.{Bounds}
-use Rattle.packed.specs.Places.{wordCause, reducedWord}
+use Rattle.packed.specs.Places.{reducedWord}
 use Rattle.packed.specs.WordLaws.{span-power}
 use Rattle.packed.specs.declared.setting.Setting.{Setting}
 use Rattle.lane.specs.Lanes.{heldCause, improperCause}
@@ -118,7 +118,7 @@ pub reducing : (l : Lane) (x : Float) → Doubles l → T (fits binary64 x) → 
 reducing l x ds f a b =
     let s = l .setting in
     let made : Working l = working l ds a in
-    let both = or-eq-false-eq-eq-false-and-eq-false (not (isWhole x)) (wordCause s (number x)) .0 b in
+    let both = or-eq-false-eq-eq-false-and-eq-false (not (isWhole x)) (leb (2 ^ spanOf s) (number x)) .0 b in
     let below : number x < 2 ^ spanOf s = leb-false (2 ^ spanOf s) (number x) (both .1) in
     record {
       working = made;

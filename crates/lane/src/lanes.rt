@@ -50,10 +50,11 @@ pub fn lane_of(s: Setting) -> Lane
     ensures { λ r. ⌜ r ≡ laneOf s ⌝ }
 {
     let p = s.p as f64;
+    let q = (1u64 << s.t) as f64;
     Lane {
         setting: s,
         p: p,
-        q: (1u64 << s.t) as f64,
+        q: q,
         inverse: 1.0 / p,
     }
 }

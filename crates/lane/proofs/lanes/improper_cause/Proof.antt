@@ -14,7 +14,6 @@ use Rattle.doubles.specs.Whole.{double, number, isWhole}
 use Rattle.doubles.specs.Exactly.{may-hold, zero-is}
 use Rattle.doubles.specs.Words.{Tested, whole-tested, from-zero-number, tested-cut, tested-number, tested-whole, short-is}
 use Rattle.packed.specs.Settings.{spanOf}
-use Rattle.packed.specs.Places.{wordCause}
 use Rattle.packed.specs.declared.setting.Setting.{Setting}
 use Rattle.lane.specs.Lanes.{improperCause}
 use Rattle.lane.specs.LaneLaws.{LaneBounds, word-small}
@@ -27,7 +26,7 @@ module _ {s : Setting} (b : LaneBounds s) (x : Float) (f : T (fits binary64 x)) 
   -- what 11 takes has passed the tests, and so what fails one is refused
   takes : improperCause s x ≡ false → Tested x
   takes e =
-      let both = or-eq-false-eq-eq-false-and-eq-false (not (isWhole x)) (wordCause s (number x)) .0 e in
+      let both = or-eq-false-eq-eq-false-and-eq-false (not (isWhole x)) (leb (2 ^ spanOf s) (number x)) .0 e in
       whole-tested x f (not-false (isWhole x) (both .0)) (word-small b (number x) (leb-false (2 ^ spanOf s) (number x) (both .1)))
 
   refuses : (Tested x → ⊥) → true ≡ improperCause s x

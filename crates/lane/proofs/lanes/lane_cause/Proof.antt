@@ -1,5 +1,6 @@
 -- `lane_cause` meets its contract. Assumes nothing.
 use Prim.Native.Nat.{_-_, _*_}
+use mathlib.Core.Path.{refl}
 use native.Mathlib.Nat.{mul-le-mul}
 use native.Mathlib.Omega.{arith}
 use borrow.Author.Needs.{needs}
@@ -20,7 +21,7 @@ mul-result-2 c =
     omega (arith, mul-le-mul {n₁ = 2 * s .k - 1} {m₁ = s .t} {n₂ = 2 * mostCoefficients} {m₂ = widest} (omega (arith, range .choice .k-high)) (range .t-high))
 
 returns : tie.Need-returns
-returns c = search needs
+returns c = refl
 
 pub lane-cause-spec : {M : Type 1} → statement M
 lane-cause-spec = tie.close (tie.spec mul-result sub-result mul-result-2 returns)

@@ -18,11 +18,11 @@ power t h = rw (one-mul (2 ^ t)) (mod-eq-of-lt (pow-lt {j = 64} (omega arith)))
 int-to-float-p : tie.Need-int-to-float-p
 int-to-float-p c = may-hold (c .before .args .s .p) (modulus-small (c .before .pre))
 
-shl-t3 : tie.Need-shl-t3
-shl-t3 c = search needs
+shl-q : tie.Need-shl-q
+shl-q c = search needs
 
-int-to-float-t4 : tie.Need-int-to-float-t4
-int-to-float-t4 c =
+int-to-float-q : tie.Need-int-to-float-q
+int-to-float-q c =
     let d = c .before .before .before in
     rw (power (d .args .s .t) (width-small (d .pre))) (may-hold (2 ^ d .args .s .t) (base-small (d .pre)))
 
@@ -32,4 +32,4 @@ returns c =
     rw (power (d .args .s .t) (width-small (d .pre)), one-is)
 
 pub lane-of-spec : {M : Type 1} → statement M
-lane-of-spec = tie.close (tie.spec int-to-float-p shl-t3 int-to-float-t4 returns)
+lane-of-spec = tie.close (tie.spec int-to-float-p shl-q int-to-float-q returns)
