@@ -32,6 +32,11 @@ def pack(s, xs):
     return "word %d" % sum(x * (2**t) ** i for i, x in enumerate(xs))
 
 
+def show_coefficients(p, xs, ys):
+    bad = [i for i, x in enumerate(xs + ys) if x >= p]
+    print(words("coefficients below", p, "of", xs, "and", ys) + ": " + ("refused 8 %d" % bad[0] if bad else "accepted") + ":")
+
+
 def refused_word(s, word):
     p, k, t, n = s
     return check(*s) or (11 if word >= 2 ** ((2 * k - 1) * t) else 0)
@@ -181,3 +186,11 @@ show_reduce(2, 8, 4, 1, 0x123456789ABCDEF)
 show_reduce(37, 3, 12, 1, 123456789012345678)
 show_reduce(127, 2, 21, 66, 2**63 - 1)
 show_reduce(65535, 1, 63, 1, 2**63 - 1)
+
+# 8 in two lists: searched as one list, the second after the first
+for p, xs, ys in [
+    (3, [1, 2], [2, 0]), (3, [1, 3], [3, 0]), (3, [3, 3], [0, 0]), (3, [1, 2], [3, 0]), (3, [1, 2, 0], [2, 3]),
+    (3, [], []), (3, [], [2, 9]), (3, [9], []), (0, [], []), (0, [], [0]),
+    (65535, [65534], [65535]), (65536, [65535], [65535]), (ALL, [65535], [65535]),
+]:
+    show_coefficients(p, xs, ys)

@@ -1,5 +1,6 @@
 // Runs document 01's examples of pack, unpack, shifted residues and reduce, and inputs on both sides of the edge of every refusal that
-// they give, and prints what came. Lists are lent with sevens in them, and printed as far as they were lent.
+// they and the test of two lists' coefficients give, and prints what came. Lists are lent with sevens in them, and printed as far as they were lent.
+use packed::coefficients::check_coefficients;
 use packed::places::pack;
 use packed::places::reduce;
 use packed::places::shifted_residues;
@@ -23,6 +24,8 @@ fn main() {
     reduce_setting();
     reduce_word();
     reduce_ends();
+    coefficients();
+    coefficients_ends();
 }
 
 // What document 01 prints, at p = 3, k = 2, t = 4.
@@ -194,6 +197,27 @@ fn reduce_ends() {
     show_reduce(65535, 1, 63, 1, 9223372036854775807);
 }
 
+// 8 in two lists: nowhere; in the first, which is searched first; in the second, with the first's length added.
+fn coefficients() {
+    show_coefficients(3, &[1, 2], &[2, 0]);
+    show_coefficients(3, &[1, 3], &[3, 0]);
+    show_coefficients(3, &[3, 3], &[0, 0]);
+    show_coefficients(3, &[1, 2], &[3, 0]);
+    show_coefficients(3, &[1, 2, 0], &[2, 3]);
+}
+
+// Empty lists, and a p of any size.
+fn coefficients_ends() {
+    show_coefficients(3, &[2; 0], &[2; 0]);
+    show_coefficients(3, &[2; 0], &[2, 9]);
+    show_coefficients(3, &[9], &[2; 0]);
+    show_coefficients(0, &[2; 0], &[2; 0]);
+    show_coefficients(0, &[2; 0], &[0]);
+    show_coefficients(65535, &[65534], &[65535]);
+    show_coefficients(65536, &[65535], &[65535]);
+    show_coefficients(ALL, &[65535], &[65535]);
+}
+
 fn show_pack(p: u64, k: u64, t: u64, n: u64, xs: &[u16]) {
     lines::text(b"pack");
     lines::setting(p, k, t, n);
@@ -233,4 +257,15 @@ fn show_lending(word: u64, lent: usize) {
     lines::number(word);
     lines::text(b" into");
     lines::number(lent as u64);
+}
+
+fn show_coefficients(p: u64, xs: &[u16], ys: &[u16]) {
+    lines::text(b"coefficients below");
+    lines::number(p);
+    lines::text(b" of");
+    lines::coefficients(xs);
+    lines::text(b" and");
+    lines::coefficients(ys);
+    lines::checked(check_coefficients(p, xs, ys));
+    lines::end();
 }
