@@ -10,6 +10,7 @@ use lane::make;
 use lane::reduce;
 use lane::sum;
 use packed::setting::Setting;
+use samples::fill;
 use std::num::nearest_u64_to_f64;
 use std::num::truncating_f64_to_u64;
 
@@ -926,23 +927,4 @@ fn of_bits(bits: u64) -> f64 {
 // A double with the bits of a mask flipped.
 fn flipped(x: f64, mask: u64) -> f64 {
     of_bits(bits_of(x) ^ mask)
-}
-
-// Coefficient i is c 75^i modulo the prime 65,537, and that modulo p.
-fn fill(p: u64, c: u64, xs: &mut [u16]) {
-    let mut x = c;
-    let mut i = 0;
-    while i < xs.len() {
-        xs[i] = residue(p, x);
-        x = x % 65537 * 75 % 65537;
-        i += 1;
-    }
-}
-
-// x modulo p, for a p from 1 to 65,536.
-fn residue(p: u64, x: u64) -> u16 {
-    if p == 0 {
-        return 0;
-    }
-    (x % p % 65536) as u16
 }

@@ -3,6 +3,7 @@
 // more than 16 coefficients its length and its digest are printed.
 use packed::products::product;
 use packed::setting::Setting;
+use samples::fill;
 
 fn main() {
     show(3, 2, 4, 1, &[1, 2], &[2, 2], &mut [7; 3]);
@@ -328,25 +329,6 @@ fn show_made(p: u64, k: u64, t: u64, n: u64, a: &mut [u16], b: &mut [u16], out: 
     fill(p, 31415, a);
     fill(p, 57721, b);
     show(p, k, t, n, a, b, out);
-}
-
-// Coefficient i is c 75^i modulo the prime 65,537, and that modulo p.
-fn fill(p: u64, c: u64, xs: &mut [u16]) {
-    let mut x = c;
-    let mut i = 0;
-    while i < xs.len() {
-        xs[i] = residue(p, x);
-        x = x % 65537 * 75 % 65537;
-        i += 1;
-    }
-}
-
-// x modulo p, for a p from 1 to 65,536.
-fn residue(p: u64, x: u64) -> u16 {
-    if p == 0 {
-        return 0;
-    }
-    (x % p % 65536) as u16
 }
 
 fn show(p: u64, k: u64, t: u64, n: u64, a: &[u16], b: &[u16], out: &mut [u16]) {

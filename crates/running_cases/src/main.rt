@@ -8,6 +8,7 @@ use packed::running::close;
 use packed::running::feed;
 use packed::running::fresh;
 use packed::setting::Setting;
+use samples::fill;
 
 const ALL: u64 = 18446744073709551615;
 
@@ -820,23 +821,4 @@ fn show_end(running: Record, out: &mut [u16]) {
     lines::closed(close(running, out));
     lines::coefficients(out);
     lines::end();
-}
-
-// Coefficient i is c 75^i modulo the prime 65,537, and that modulo p.
-fn fill(p: u64, c: u64, xs: &mut [u16]) {
-    let mut x = c;
-    let mut i = 0;
-    while i < xs.len() {
-        xs[i] = residue(p, x);
-        x = x % 65537 * 75 % 65537;
-        i += 1;
-    }
-}
-
-// x modulo p, for a p from 1 to 65,536.
-fn residue(p: u64, x: u64) -> u16 {
-    if p == 0 {
-        return 0;
-    }
-    (x % p % 65536) as u16
 }

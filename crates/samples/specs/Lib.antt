@@ -1,0 +1,2 @@
+-- Lists for the cases programs.
+pub mod Samples
