@@ -1,5 +1,5 @@
-// Sums, differences and products of whole numbers in doubles. What each asks keeps its result below 2^53, where a double holds it exactly: sum
-// and reduce form no double but by these, by a cast of a whole number, and by the one product that is rounded, in `quotients`.
+// Sums, differences and products of whole numbers in doubles. What each asks keeps its result below 2^53, where a double holds it exactly. sum
+// forms no double but by these and by the cast of a coefficient; reduce forms others in `quotients`, where one product is rounded.
 ghost use Prim.Native.Nat.{_+_, _-_, _*_, _≤_, _<_};
 ghost use Rattle.doubles.specs.Whole.{exactBelow, number, Held, Exact};
 
