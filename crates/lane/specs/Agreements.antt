@@ -2,7 +2,9 @@
 --     SumAnswer s xs ys x     x holds the packed word of the schoolbook sums exactly, and its fields are their coefficients
 --     sum-schoolbook          so it is with every word that a lane sum answers
 --     sum-reduces             reduce takes it
---     reduce-agrees           a word that reduce answers is the word that the library's reduce answers of the same number, held exactly
+--     reduced-holds, reduce-fields
+--                             a word that reduce answers holds the reduced word exactly, and its fields are the old ones modulo p
+--     reduce-agrees           it is the word that the library's reduce answers of the same number
 --     sum-reduced             sum, then reduce: the fields are the schoolbook sums modulo p
 use Prim.Native.Nat.{ℕ, _%_, _^_, _<_, _≤_}
 use mathlib.Core.Path.{_≡_, sym, ap, _∙_}
