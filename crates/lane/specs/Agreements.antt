@@ -33,7 +33,7 @@ use Rattle.packed.specs.declared.answers.Packed.{Packed}
 use Rattle.packed.specs.declared.answers.Packed.the-variants as inPacked
 use Rattle.lane.specs.Lanes.{laneCause, makeChecks, heldCause, improperCause, sumChecks, sumWord, reduceChecks, LaneSums, LaneReduces}
 use Rattle.lane.specs.LaneLaws.{held-checked, held-within, word-small}
-use Rattle.lane.specs.SumLaws.{Listed, listed, fed-operands, fed-few, word-fits, sum-small}
+use Rattle.lane.specs.SumLaws.{Listed, listed, listed-operands, listed-few, word-fits, sum-small}
 use Rattle.lane.specs.declared.Lane.{Lane}
 use Rattle.lane.specs.declared.LaneAnswer.the-variants as inLane
 
@@ -71,7 +71,7 @@ module _ (l : Lane) (xs ys : List ℕ) (x : Float) (promise : LaneSums l xs ys (
   pub sum-schoolbook : SumAnswer (l .setting) xs ys x
   sum-schoolbook = record {
     word = holds;
-    fields = λ j. rw (held-number holds) (batch-fields (l .setting) (accepted l made) (fedPairs (l .setting) xs ys) (fed-operands lists) (fed-few lists) j);
+    fields = λ j. rw (held-number holds) (batch-fields (l .setting) (accepted l made) (fedPairs (l .setting) xs ys) (listed-operands lists) (listed-few lists) j);
   }
 
   pub sum-reduces : reduceChecks l x ≡ fine

@@ -17,7 +17,7 @@ use mathlib.Core.Path.{_≡_, refl, sym, _∙_}
 use mathlib.Core.List.{List}
 use mathlib.Core.Bool.{true, false, not}
 use mathlib.Mathlib.Data.Bool.Basic.{or-eq-false-eq-eq-false-and-eq-false}
-use native.Mathlib.Nat.{le-trans, mod-lt, mod-le, zero-mod, mod-eq-of-lt, add-mod-right, div-eq-of-lt, div-le-self, div-div-eq-div-mul, mul-div-le, mul-le-mul-left, mul-le-mul-right, pow-succ'}
+use native.Mathlib.Nat.{le-trans, lt-of-le-of-lt, mod-lt, mod-le, zero-mod, mod-eq-of-lt, add-mod-right, div-eq-of-lt, div-le-self, div-div-eq-div-mul, mul-div-le, mul-le-mul-left, mul-le-mul-right, pow-succ'}
 use native.Mathlib.Omega.{arith}
 use lib.Dec.{T, ltb, leb}
 use lib.ListN.{drop, drop-of-length-le}
@@ -25,10 +25,9 @@ use lib.Pow.{pow-pos}
 use lib.Ieee.{Float, binary64, fits, lt, ofBits}
 use borrow.Author.Tests.{ltb-true, ltb-false, leb-false, not-false}
 use Rattle.polynomials.specs.Indices.{upto}
-use Rattle.polynomials.specs.IndexLaws.{length-upto, upto-at}
+use Rattle.polynomials.specs.IndexLaws.{length-upto}
 use Rattle.polynomials.specs.Places.{packed, shifted, reduced, minus}
-use Rattle.polynomials.specs.PlaceLaws.{packed-turn, packed-part}
-use Rattle.polynomials.specs.ReductionLaws.{reduced-shifted, reduced-most}
+use Rattle.polynomials.specs.ReductionLaws.{reduced-shifted, reduced-turn, reduced-turn-most}
 use Rattle.doubles.specs.Whole.{exactBelow, double, number, isWhole, Held, Exact, quotientBelow}
 use Rattle.doubles.specs.Exactly.{held, held-number, held-exact, whole-held, held-below, zero-is}
 use Rattle.packed.specs.Limits.{wordBits}
@@ -174,12 +173,10 @@ module _ {l : Lane} {x : Float} (pre : Reducing l x) where
 
     -- the word from one place below, which is at most the whole
     next : packed (base s) (drop i ms) * base s + reduced (s .p) (base s) word (i - 1) ≡ packed (base s) (drop (i - 1) ms)
-    next =
-        rw (← upto-at (places s) (reduced (s .p) (base s) word) (i - 1) (omega (arith, t .inside)))
-        (packed-turn (base s) ms i (packed (base s) (drop i ms)) more (rw length-upto (t .inside)) refl)
+    next = reduced-turn (s .p) (base s) (places s) word i _ more (t .inside) refl
 
     room : packed (base s) (drop i ms) * base s + reduced (s .p) (base s) word (i - 1) < quotientBelow
-    room = rw next (omega (arith, packed-part (base s) (pow-pos (s .t)) ms (i - 1), reduced-most (s .p) (base s) (places s) word (pow-pos (s .t)), short))
+    room = lt-of-le-of-lt (reduced-turn-most (s .p) (base s) (places s) word i _ (pow-pos (s .t)) more (t .inside) refl) short
 
     pub next-times : Exact w × Exact (l .q) × (number w * number (l .q) < exactBelow)
     next-times = times-asks (t .held-word) (held-base (pre .working)) (omega (arith, room))

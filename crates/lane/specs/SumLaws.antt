@@ -5,7 +5,7 @@
 --                                     one place below: what is asked on the way, and that it is the word from there on
 --     Listed s xs ys                  two flat lists of at most n pairs below p, for a setting that 16 takes; Summing l xs ys, and a lane record
 --     listed, summing                 so they are where nothing is refused
---     fed-operands, fed-few           their pairs are operands, and at most n
+--     listed-operands, listed-few     their pairs are operands, and at most n
 --     word-fits, sum-small            the sum of all products is a word, and so below 2^52
 --     sumSoFar s xs ys r              the products of the first r pairs, added up
 --     pair-inside, right-inside       the coefficients of a pair stand in the lists
@@ -18,32 +18,31 @@ use mathlib.Core.Path.{_≡_, refl, sym, ap, _∙_}
 use mathlib.Core.Bool.{not}
 use mathlib.Core.List.{List}
 use mathlib.Mathlib.Data.Bool.Basic.{or-eq-false-eq-eq-false-and-eq-false}
-use native.Mathlib.Nat.{le-trans, suc-mul, div-mul-le-self, mul-le-mul-right}
+use native.Mathlib.Nat.{lt-of-le-of-lt, suc-mul, div-mul-le-self, mul-le-mul-right}
 use native.Mathlib.Numerals.{add-one}
 use native.Mathlib.Omega.{arith}
 use lib.Dec.{eqb}
-use lib.ListN.{length, drop, getD, drop-of-length-le}
+use lib.ListN.{length, drop, drop-of-length-le}
 use lib.Pow.{pow-pos}
 use lib.Ieee.{Float, binary64, ofBits}
 use borrow.Author.Tests.{eqb-true, ltb-false, not-false}
 use Rattle.polynomials.specs.Indices.{sumTo}
 use Rattle.polynomials.specs.IndexLaws.{sum-fewer}
-use Rattle.polynomials.specs.Lists.{part, Below, Pairs, sumOfProducts}
-use Rattle.polynomials.specs.BoundLaws.{batch-most, batch-more}
+use Rattle.polynomials.specs.Lists.{coefficient, part, Below, Pairs, sumOfProducts}
 use Rattle.polynomials.specs.Places.{packed, sumOfWords}
-use Rattle.polynomials.specs.PlaceLaws.{packed-turn, packed-part, packed-sumOfProducts}
+use Rattle.polynomials.specs.PlaceLaws.{packed-sumOfProducts}
 use Rattle.polynomials.specs.Blocks.{block, blockAt, pairsUpto}
 use Rattle.polynomials.specs.BlockLaws.{block-operand, words-of-pairs}
-use Rattle.polynomials.specs.PairLaws.{length-pairs-of, pairs-of-operands}
 use Rattle.doubles.specs.Whole.{exactBelow, number, Held, Exact, quotientBelow}
 use Rattle.doubles.specs.Exactly.{held, held-number, held-exact, zero-is}
 use Rattle.packed.specs.Answers.{fine}
 use Rattle.packed.specs.AnswerLaws.{passed}
 use Rattle.packed.specs.Settings.{base, spanOf}
-use Rattle.packed.specs.Coefficients.{taken, takenOne, taken-length, taken-at, taken-low, coefficients-check}
-use Rattle.packed.specs.Bounds.{Bounds}
+use Rattle.packed.specs.Coefficients.{taken, takenOne, taken-length, taken-low, coefficients-check}
+use Rattle.packed.specs.Bounds.{Bounds, batch-within}
 use Rattle.packed.specs.Running.{fedPairs, pairsCause}
-use Rattle.packed.specs.BatchLaws.{taken-block}
+use Rattle.packed.specs.BatchLaws.{taken-block, taken-turn, taken-most}
+use Rattle.packed.specs.FeedLaws.{fed-operands, fed-count}
 use Rattle.packed.specs.WordLaws.{within-span}
 use Rattle.packed.specs.declared.setting.Setting.{Setting}
 use Rattle.lane.specs.Lanes.{heldCause, fullCause, sumChecks, sumWord}
@@ -64,16 +63,16 @@ packed-none p q xs = rw (zero-is, drop-of-length-le (taken p xs) {i = length xs}
 
 module _ {p : ℕ} {q : Float} {xs : List ℕ} (pre : Packing p q xs) {w : Float} {i : ℕ} (more : 0 < i) (top : i ≤ length xs) (h : Held w (packed (number q) (drop i (taken p xs)))) where
   -- the word from one place below, which is at most the whole
-  next : packed (number q) (drop i (taken p xs)) * number q + takenOne p (getD xs (i - 1) 0) ≡ packed (number q) (drop (i - 1) (taken p xs))
-  next = rw (← taken-at p xs (i - 1)) (packed-turn (number q) (taken p xs) i _ more (rw taken-length top) refl)
+  next : packed (number q) (drop i (taken p xs)) * number q + takenOne p (coefficient xs (i - 1)) ≡ packed (number q) (drop (i - 1) (taken p xs))
+  next = taken-turn (number q) p xs i _ more top refl
 
-  below : packed (number q) (drop i (taken p xs)) * number q + takenOne p (getD xs (i - 1) 0) < exactBelow
-  below = rw next (omega (arith, packed-part (number q) (pre .base-low) (taken p xs) (i - 1), pre .room))
+  below : packed (number q) (drop i (taken p xs)) * number q + takenOne p (coefficient xs (i - 1)) < exactBelow
+  below = lt-of-le-of-lt (taken-most (number q) p xs i _ (pre .base-low) more top refl) (pre .room)
 
   pub pack-times : Exact w × Exact q × (number w * number q < exactBelow)
   pack-times = times-asks h (pre .base-exact) (omega (arith, below))
 
-  module _ {v y : Float} (hv : Held v (number w * number q)) (hy : Held y (takenOne p (getD xs (i - 1) 0))) where
+  module _ {v y : Float} (hv : Held v (number w * number q)) (hy : Held y (takenOne p (coefficient xs (i - 1)))) where
     pub pack-plus : Exact v × Exact y × (number v + number y < exactBelow)
     pack-plus = plus-asks (times-gives h (pre .base-exact) hv) hy below
 
@@ -118,17 +117,14 @@ abbrev pub sumSoFar : Setting → List ℕ → List ℕ → ℕ → ℕ
 sumSoFar s xs ys r = sumTo r (λ v. blockAt (base s) (s .k) (taken (s .p) xs) v * blockAt (base s) (s .k) (taken (s .p) ys) v)
 
 module _ {s : Setting} {xs ys : List ℕ} (h : Listed s xs ys) where
-  pub fed-operands : Pairs (s .p) (s .k) (fedPairs s xs ys)
-  fed-operands =
-      pairs-of-operands (s .p) (s .k) (taken (s .p) xs) (taken (s .p) ys) (taken-low (s .p) xs (h .left-below)) (taken-low (s .p) ys (h .right-below))
+  pub listed-operands : Pairs (s .p) (s .k) (fedPairs s xs ys)
+  listed-operands = fed-operands s xs ys (h .left-below) (h .right-below)
 
-  pub fed-few : length (fedPairs s xs ys) ≤ s .n
-  fed-few = rw (length-pairs-of (s .k) (taken (s .p) xs) (taken (s .p) ys), taken-length (s .p) xs) (h .few)
+  pub listed-few : length (fedPairs s xs ys) ≤ s .n
+  listed-few = rw (fed-count s xs ys) (h .few)
 
   pub word-fits : sumWord s xs ys < 2 ^ spanOf s
-  word-fits =
-      within-span s (sumOfProducts (fedPairs s xs ys)) (h .within .bounded)
-      (λ j. le-trans (batch-most (s .p) (s .k) (fedPairs s xs ys) fed-operands j) (batch-more (s .p) (s .k) (length (fedPairs s xs ys)) (s .n) fed-few j))
+  word-fits = within-span s (sumOfProducts (fedPairs s xs ys)) (h .within .bounded) (batch-within s (fedPairs s xs ys) listed-operands listed-few)
 
   pub sum-small : sumWord s xs ys < quotientBelow
   sum-small = word-small (h .within) (sumWord s xs ys) word-fits

@@ -1,11 +1,12 @@
 // What a lane record and a word have to be: 16, 12 and 11.
 ghost use mathlib.Core.Path.{_≡_};
 ghost use mathlib.Core.Bool.{false};
+ghost use Prim.Native.Nat.{_^_, _<_};
 ghost use lib.Ieee.{isNan};
 ghost use Rattle.doubles.specs.Whole.{differs};
 ghost use Rattle.packed.specs.Settings.{checkedSays};
 ghost use Rattle.packed.specs.Bounds.{Bounds};
-ghost use Rattle.lane.specs.Lanes.{laneCause, makeChecks, laneOf, otherDoubles, heldCause, improperCause};
+ghost use Rattle.lane.specs.Lanes.{laneBits, laneCause, makeChecks, laneOf, otherDoubles, heldCause, improperCause};
 ghost use Rattle.lane.specs.LaneLaws.{LaneBounds};
 use crate::Lane;
 use packed::refusals;
@@ -50,7 +51,7 @@ pub fn lane_of(s: Setting) -> Lane
     ensures { λ r. ⌜ r ≡ laneOf s ⌝ }
 {
     let p = s.p as f64;
-    let q = (1u64 << s.t) as f64;
+    let q = power(s.t) as f64;
     Lane {
         setting: s,
         p: p,
@@ -113,5 +114,13 @@ pub fn improper_cause(s: Setting, x: f64) -> bool
     if word as f64 != x {
         return true;
     }
-    1u64 << ((2 * s.k - 1) * s.t) <= word
+    power((2 * s.k - 1) * s.t) <= word
+}
+
+// 2^t
+fn power(t: u64) -> u64
+    requires { ⌜ t < laneBits ⌝ }
+    ensures { λ r. ⌜ r ≡ 2 ^ t ⌝ }
+{
+    1u64 << t
 }

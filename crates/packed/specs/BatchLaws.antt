@@ -2,6 +2,7 @@
 --     PackedWord s w, PackedWords s ws    w is the word of an operand; each of the words ws is
 --     taken-part                          what packing takes of the part of a list where block i stands is block i of what it takes of the list
 --     taken-block                         and so they pack to one number, where the block is whole
+--     taken-turn, taken-most              packing from the highest place down: the turn from place i to the one below, which gives no more than the whole
 --     packed-word                         the word of an operand is one
 --     worth s b ws i                      word i, as its polynomial packs in the base b
 --     columnWorth s b xs ys i j m         the sum of m products of words, from i in xs and from j in ys on, at that worth
@@ -17,17 +18,17 @@ use mathlib.Core.List.{List}
 use native.Mathlib.Nat.{le-trans, lt-of-le-of-lt, zero-mul, mul-one}
 use native.Mathlib.Decide.{decLt}
 use native.Mathlib.Omega.{arith}
-use lib.ListN.{length, length-take}
+use lib.ListN.{length, drop, length-take}
 use Rattle.polynomials.specs.IndexLaws.{length-upto, sum-same, sum-join}
 use Rattle.polynomials.specs.Lists.{coefficient, part, Below, Operand, Pair, Pairs, sumOfProducts, batchMost}
 use Rattle.polynomials.specs.ListLaws.{coefficient-past, coefficient-part}
 use Rattle.polynomials.specs.BoundLaws.{batch-most, batch-more, batch-past}
 use Rattle.polynomials.specs.Places.{packed, fields, sumOfWords}
-use Rattle.polynomials.specs.PlaceLaws.{packed-agree, fields-packed, one-power}
+use Rattle.polynomials.specs.PlaceLaws.{packed-agree, packed-turn, packed-part, fields-packed, one-power}
 use Rattle.polynomials.specs.Blocks.{block, blockAt, pairsUpto, dot, spread}
 use Rattle.polynomials.specs.BlockLaws.{coefficient-block, length-pairs, pairs-operands, words-of-pairs, spread-words}
 use Rattle.packed.specs.Settings.{base, places}
-use Rattle.packed.specs.Coefficients.{taken, taken-length, taken-at}
+use Rattle.packed.specs.Coefficients.{taken, takenOne, taken-length, taken-at}
 use Rattle.packed.specs.Bounds.{Bounds, batch-sum}
 use Rattle.packed.specs.declared.setting.Setting.{Setting}
 
@@ -70,6 +71,13 @@ taken-part p k xs i start end j hs he = go (decLt j (end - start)) (decLt j k)
 pub taken-block : (q p k : ℕ) (xs : List ℕ) (i : ℕ) → i * k + k ≤ length xs → packed q (taken p (part (i * k) (i * k + k) xs)) ≡ blockAt q k (taken p xs) i
 taken-block q p k xs i h =
     packed-agree q (taken p (part (i * k) (i * k + k) xs)) (block k (taken p xs) i) (λ j. taken-part p k xs i (i * k) (i * k + k) j (omega arith) (omega arith))
+
+module _ (q p : ℕ) (xs : List ℕ) (i w : ℕ) where
+  pub taken-turn : 0 < i → i ≤ length xs → w ≡ packed q (drop i (taken p xs)) → w * q + takenOne p (coefficient xs (i - 1)) ≡ packed q (drop (i - 1) (taken p xs))
+  taken-turn above top e = rw (← taken-at p xs (i - 1)) (packed-turn q (taken p xs) i w above (rw taken-length top) e)
+
+  pub taken-most : 0 < q → 0 < i → i ≤ length xs → w ≡ packed q (drop i (taken p xs)) → w * q + takenOne p (coefficient xs (i - 1)) ≤ packed q (taken p xs)
+  taken-most hq above top e = rw (taken-turn above top e) (packed-part q hq (taken p xs) (i - 1))
 
 pub packed-word : (s : Setting) (xs : List ℕ) → Bounds s → length xs ≡ s .k → Below (s .p) xs → PackedWord s (packed (base s) xs)
 packed-word s xs b size below =

@@ -1,6 +1,7 @@
 -- What an accepted setting gives. Assumes nothing.
 --     Bounds s       the ranges of p, k, t, n; and, from 5 and 6, that fields, words and batches fit
 --     bounds         a setting that no check refuses has these bounds: the one law that looks into 5 and 6
+--     batch-within   the coefficients of a sum of up to n products are bounded as fields are
 --     batch-sum      the packed products of up to n pairs add up to less than 2^64
 use Prim.Native.Nat.{ℕ, suc, _+_, _-_, _*_, _^_, _≤_, _<_}
 use mathlib.Core.Path.{_≡_, sym, _∙_}
@@ -105,7 +106,8 @@ bounds s e =
       word-fits = word-below s r;
     }
 
+pub batch-within : (s : Setting) (cs : List Pair) → Pairs (s .p) (s .k) cs → length cs ≤ s .n → Within (batchMost (s .p) (s .k) (s .n)) (sumOfProducts cs)
+batch-within s cs ps h j = le-trans (batch-most (s .p) (s .k) cs ps j) (batch-more (s .p) (s .k) (length cs) (s .n) h j)
+
 pub batch-sum : (s : Setting) → Bounds s → (cs : List Pair) → Pairs (s .p) (s .k) cs → length cs ≤ s .n → sumOfWords (base s) cs < 2 ^ 64
-batch-sum s b cs ps h =
-    rw (← packed-sumOfProducts (base s) cs)
-    (b .batch-fits (sumOfProducts cs) (λ j. le-trans (batch-most (s .p) (s .k) cs ps j) (batch-more (s .p) (s .k) (length cs) (s .n) h j)))
+batch-sum s b cs ps h = rw (← packed-sumOfProducts (base s) cs) (b .batch-fits (sumOfProducts cs) (batch-within s cs ps h))

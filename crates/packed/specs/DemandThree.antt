@@ -13,7 +13,7 @@ use Prim.Native.Nat.{ℕ, _+_, _*_, _/_, _%_, _^_, _≤_, _<_}
 use mathlib.Core.Path.{_≡_, refl, sym, ap, _∙_}
 use mathlib.Core.Bool.{false}
 use mathlib.Core.List.{List, [], _∷_, _++_, append-nil, append-assoc, Perm}
-use native.Mathlib.Nat.{le-trans, lt-of-le-of-lt, add-zero, zero-div, zero-mod, mod-lt, mod-add-mod, div-add-mod', add-mul, zero-mul}
+use native.Mathlib.Nat.{lt-of-le-of-lt, add-zero, zero-div, zero-mod, mod-lt, mod-add-mod, div-add-mod', add-mul, zero-mul}
 use native.Mathlib.Decide.{decLt}
 use native.Mathlib.Omega.{arith}
 use lib.ListN.{length, length-append, replicate}
@@ -22,23 +22,24 @@ use Rattle.polynomials.specs.Indices.{upto, filled}
 use Rattle.polynomials.specs.IndexLaws.{length-upto, upto-at, upto-same}
 use Rattle.polynomials.specs.Lists.{coefficient, Pair, Pairs, sumOfProducts}
 use Rattle.polynomials.specs.ListLaws.{lists-agree, coefficient-zeros, filled-at, filled-after, length-filled, below-join}
-use Rattle.polynomials.specs.BoundLaws.{batch-most, batch-more, batch-past}
+use Rattle.polynomials.specs.BoundLaws.{batch-most, batch-past}
 use Rattle.polynomials.specs.Places.{packed, field}
 use Rattle.polynomials.specs.PlaceLaws.{packed-sumOfProducts, field-packed}
 use Rattle.polynomials.specs.Blocks.{blocks}
 use Rattle.polynomials.specs.Pairs.{fullBatches, openBatch}
-use Rattle.polynomials.specs.PairLaws.{length-pairs-of, pairs-of-operands, pairs-join, pairs-parts, flat-join, coefficient-sums, words-join, sums-order, length-order, batches, open-few, batch-open, batch-filled}
+use Rattle.polynomials.specs.PairLaws.{pairs-join, pairs-parts, flat-join, coefficient-sums, words-join, sums-order, length-order, batches, open-few, batch-open, batch-filled}
 use Rattle.packed.specs.Limits.{residuePlaces}
 use Rattle.packed.specs.Answers.{answered, refused, Verdict, fine, refuse, refuses, _andThen_}
 use Rattle.packed.specs.SharedAnswers.{shortCause}
 use Rattle.packed.specs.AnswerLaws.{once}
 use Rattle.packed.specs.Settings.{settingChecks, base, places, spanOf}
-use Rattle.packed.specs.Coefficients.{taken, taken-low, taken-length, taken-join}
-use Rattle.packed.specs.Bounds.{Bounds, bounds}
+use Rattle.packed.specs.Coefficients.{taken, taken-length, taken-join}
+use Rattle.packed.specs.Bounds.{Bounds, bounds, batch-within}
 use Rattle.packed.specs.Running.{Coherent, closingAt, split, withPair, afterPair, afterPairs, fedPairs, pairChecks, closeChecks, takenSays, freshSum, recordOf, Freshens, Feeds, feed-once, closedSays, closedOf, closed-back, Closes}
 use Rattle.packed.specs.Calls.{Call, Calls, lefts, rights, schoolbook, ClosesTo, sumOf}
 use Rattle.packed.specs.RunningLaws.{after-one, after-join, after-total, coherent-after}
 use Rattle.packed.specs.Feeding.{Feeding, fedSum}
+use Rattle.packed.specs.FeedLaws.{fed-operands, fed-count}
 use Rattle.packed.specs.RunningChecks.{pairs-checked, pairs-pass, feed-refused, feed-fine, feed-taken, Told, feed-told, close-pass}
 use Rattle.packed.specs.declared.setting.Setting.{Setting}
 use Rattle.packed.specs.declared.running.Sum.{Sum}
@@ -47,7 +48,6 @@ use Rattle.packed.specs.declared.running.Begun.{Begun}
 use Rattle.packed.specs.declared.running.Fed.{Fed}
 use Rattle.packed.specs.declared.running.Taken.the-variants as inTaken
 use Rattle.packed.specs.declared.running.Closed.{Closed}
-use Rattle.packed.specs.declared.running.Closed.the-variants as inClosed
 
 -- ---- coherent records
 
@@ -63,15 +63,8 @@ fresh-coherent s ok =
       word-below = pow-pos (spanOf s);
     }
 
-fed-operands : (s : Setting) (u : Sum) (xs ys : List ℕ) → Feeding s u xs ys → Pairs (s .p) (s .k) (fedPairs s xs ys)
-fed-operands s u xs ys f =
-    pairs-of-operands (s .p) (s .k) (taken (s .p) xs) (taken (s .p) ys) (taken-low (s .p) xs (f .left-below)) (taken-low (s .p) ys (f .right-below))
-
-fed-count : (s : Setting) (xs ys : List ℕ) → length (fedPairs s xs ys) ≡ length xs / s .k
-fed-count s xs ys = length-pairs-of (s .k) (taken (s .p) xs) (taken (s .p) ys) ∙ ap (λ (n : ℕ). n / s .k) (taken-length (s .p) xs)
-
 fed-coherent : (s : Setting) (u : Sum) (xs ys : List ℕ) → Feeding s u xs ys → Coherent s (fedSum s u xs ys)
-fed-coherent s u xs ys f = coherent-after s u (fedPairs s xs ys) (f .coherent) (fed-operands s u xs ys f) (rw (fed-count s xs ys) (f .room))
+fed-coherent s u xs ys f = coherent-after s u (fedPairs s xs ys) (f .coherent) (fed-operands s xs ys (f .left-below) (f .right-below)) (rw (fed-count s xs ys) (f .room))
 
 pub feed-coherent : (r : Record) (xs ys : List ℕ) (f : Fed) → Coherent (r .setting) (r .sum) → Feeds r xs ys f → Coherent (f .running .setting) (f .running .sum)
 feed-coherent r xs ys f h promise = go (pairChecks r xs ys) refl
@@ -142,7 +135,7 @@ module _ (s : Setting) (ok : settingChecks s ≡ fine) where
 
   pub batch-fields : (cs : List Pair) → Pairs (s .p) (s .k) cs → length cs ≤ s .n → (j : ℕ) → field (base s) (packed (base s) (sumOfProducts cs)) j ≡ coefficient (sumOfProducts cs) j
   batch-fields cs ps few =
-      field-packed (base s) (sumOfProducts cs) (λ j. lt-of-le-of-lt (le-trans (batch-most (s .p) (s .k) cs ps j) (batch-more (s .p) (s .k) (length cs) (s .n) few j)) (b .field-fits j))
+      field-packed (base s) (sumOfProducts cs) (λ j. lt-of-le-of-lt (batch-within s cs ps few j) (b .field-fits j))
 
   past : (cs : List Pair) → Pairs (s .p) (s .k) cs → (j : ℕ) → places s ≤ j → coefficient (sumOfProducts cs) j ≡ 0
   past cs ps j h = omega (arith, batch-most (s .p) (s .k) cs ps j, batch-past (s .p) (s .k) (length cs) j h)
@@ -267,7 +260,7 @@ module _ (s : Setting) (ok : settingChecks s ≡ fine) where
   reached cs r h (c ∷ calls) z e =
       let told : Told (recordOf s (sumOf s cs)) (c .left) (c .right) (c .gave) = rw (h .is) at (feed-told r (c .left) (c .right) (c .gave) (e .0) (e .1)) in
       let ds : List Pair = fedPairs s (c .left) (c .right) in
-      let pd : Pairs (s .p) (s .k) ds = fed-operands s (sumOf s cs) (c .left) (c .right) (told .could) in
+      let pd : Pairs (s .p) (s .k) ds = fed-operands s (c .left) (c .right) (told .could .left-below) (told .could .right-below) in
       let sum : fedSum s (sumOf s cs) (c .left) (c .right) ≡ sumOf s (cs ++ ds) = sum-more s ok cs ds (h .operands) pd in
       let next : Reached s (cs ++ ds) (c .gave .running) = record {
         is = told .after ∙ ap (recordOf s) sum;

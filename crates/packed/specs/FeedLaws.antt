@@ -1,4 +1,5 @@
 -- The sums of a feed, a batch at a time, on plain values. Assumes nothing.
+--     fed-operands, fed-count     the pairs of two flat lists are operands, and so many
 --     run-count, run-words, run-operands
 --                                 pairs that follow one another: how many, the sum of their packed products, that they are operands
 --     multiplying                 the pairs of an open batch can be multiplied and added up in its word
@@ -19,16 +20,24 @@ use Rattle.polynomials.specs.Lists.{Below, Pair, Pairs}
 use Rattle.polynomials.specs.Places.{sumOfWords}
 use Rattle.polynomials.specs.Blocks.{block, blockAt, pairsUpto}
 use Rattle.polynomials.specs.BlockLaws.{block-operand, length-pairs, pairs-operands, words-of-pairs}
-use Rattle.polynomials.specs.PairLaws.{pairs-more}
+use Rattle.polynomials.specs.PairLaws.{length-pairs-of, pairs-of-operands, pairs-more}
 use Rattle.packed.specs.Limits.{mostCoefficients, mostPairs}
 use Rattle.packed.specs.Settings.{base}
 use Rattle.packed.specs.Coefficients.{taken, taken-low, taken-length}
 use Rattle.packed.specs.Bounds.{Bounds, bounds}
-use Rattle.packed.specs.Running.{openPairs, Coherent, split, afterPairs}
+use Rattle.packed.specs.Running.{openPairs, Coherent, split, afterPairs, fedPairs}
 use Rattle.packed.specs.RunningLaws.{word-room, withPairs, batch-after, after-join, after-total, coherent-after}
 use Rattle.packed.specs.Feeding.{Feeding, fedSum, pairsFrom, OpenBatch, batchSum, products, Multiplying}
 use Rattle.packed.specs.declared.setting.Setting.{Setting}
 use Rattle.packed.specs.declared.running.Sum.{Sum}
+
+-- ---- the pairs of two flat lists
+
+pub fed-operands : (s : Setting) (xs ys : List ℕ) → Below (s .p) xs → Below (s .p) ys → Pairs (s .p) (s .k) (fedPairs s xs ys)
+fed-operands s xs ys hx hy = pairs-of-operands (s .p) (s .k) (taken (s .p) xs) (taken (s .p) ys) (taken-low (s .p) xs hx) (taken-low (s .p) ys hy)
+
+pub fed-count : (s : Setting) (xs ys : List ℕ) → length (fedPairs s xs ys) ≡ length xs / s .k
+fed-count s xs ys = length-pairs-of (s .k) (taken (s .p) xs) (taken (s .p) ys) ∙ ap (λ (n : ℕ). n / s .k) (taken-length (s .p) xs)
 
 -- ---- pairs that follow one another
 

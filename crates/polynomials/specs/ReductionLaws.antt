@@ -9,17 +9,20 @@
 --     quotient-under            p times it is no more than what stands there
 --     shifted-quotient          document 003's algorithm 2: u_i from one division by p
 --     reduced-most              packing the m gives no more than the number
+--     reduced-turn, reduced-turn-most
+--                               packing them from the highest place down: the turn from place i to the one below, which gives no more than the number
 --     field-reduced             and its fields are the m
 use Prim.Native.Nat.{ℕ, suc, _+_, _-_, _*_, _/_, _%_, _^_, _≤_, _<_, _∣_, zero-le}
 use mathlib.Core.Path.{_≡_, sym, ap, _∙_}
 use native.Mathlib.Nat.{mod-lt, mod-add-mod, mod-add-div, div-add-mod', add-mul-mod-self-right, suc-mul, pow-suc, pow-succ', div-div-eq-div-mul, div-lt-iff-lt-mul, mod-eq-of-lt, one-le-pow, mod-le, mod-def, mod-mod-of-dvd, mul-comm, mul-div-le, le-trans, lt-of-le-of-lt}
 use native.Mathlib.Decide.{decLt}
 use native.Mathlib.Omega.{arith}
+use lib.ListN.{drop}
 use Rattle.polynomials.specs.Indices.{upto}
 use Rattle.polynomials.specs.Lists.{coefficient}
 use Rattle.polynomials.specs.Places.{packed, field, fields, shifted, reduced, minus}
-use Rattle.polynomials.specs.IndexLaws.{upto-at, upto-past, upto-most}
-use Rattle.polynomials.specs.PlaceLaws.{packed-most, packed-fields-most, field-packed}
+use Rattle.polynomials.specs.IndexLaws.{length-upto, upto-at, upto-past, upto-most}
+use Rattle.polynomials.specs.PlaceLaws.{packed-most, packed-turn, packed-part, packed-fields-most, field-packed}
 
 pub mul-mod : (a b p : ℕ) → a * (b % p) % p ≡ a * b % p
 mul-mod a b p =
@@ -81,6 +84,14 @@ reduced-most p q m r hq =
 
     lower : (j : ℕ) → coefficient (upto m (reduced p q r)) j ≤ coefficient (fields q m r) j
     lower j = at j (decLt j m)
+
+module _ (p q m r i w : ℕ) where
+  pub reduced-turn : 0 < i → i ≤ m → w ≡ packed q (drop i (upto m (reduced p q r))) → w * q + reduced p q r (i - 1) ≡ packed q (drop (i - 1) (upto m (reduced p q r)))
+  reduced-turn above top e =
+      rw (← upto-at m (reduced p q r) (i - 1) (omega arith)) (packed-turn q (upto m (reduced p q r)) i w above (rw length-upto top) e)
+
+  pub reduced-turn-most : 0 < q → 0 < i → i ≤ m → w ≡ packed q (drop i (upto m (reduced p q r))) → w * q + reduced p q r (i - 1) ≤ r
+  reduced-turn-most hq above top e = rw (reduced-turn above top e) (le-trans (packed-part q hq (upto m (reduced p q r)) (i - 1)) (reduced-most p q m r hq))
 
 pub field-reduced : (p q m r i : ℕ) → 0 < q → i < m → field q (packed q (upto m (reduced p q r))) i ≡ reduced p q r i
 field-reduced p q m r i hq h =

@@ -1,12 +1,10 @@
 -- `improper_cause` meets its contract. Assumes nothing.
-use Prim.Native.Nat.{ℕ, _*_, _%_, _^_}
+use Prim.Native.Nat.{ℕ, _^_}
 use mathlib.Core.Path.{_≡_, refl, sym, _∙_}
 use mathlib.Core.Bool.{Bool, true, false, not, true≢false}
 use mathlib.Mathlib.Data.Bool.Basic.{or-eq-false-eq-eq-false-and-eq-false}
-use native.Mathlib.Nat.{one-mul, mod-eq-of-lt}
 use native.Mathlib.Omega.{arith}
 use lib.Dec.{T, leb}
-use lib.Pow.{pow-lt}
 use lib.Ieee.{Float, binary64, fits, le, eq, ne}
 use borrow.Author.Needs.{needs}
 use borrow.Author.Tests.{leb-false, ne-eqb, eqb-false, not-true, not-false}
@@ -43,12 +41,11 @@ module _ {s : Setting} (b : LaneBounds s) (x : Float) (f : T (fits binary64 x)) 
         let none : isWhole x ≡ false = sym (tested-whole x f t) ∙ not-true (eq (double (number x)) x) (rw cut at h) in
         rw none
 
-    at-end : ne (double w) x ≡ false → leb (1 * 2 ^ spanOf s % 2 ^ 64) w ≡ improperCause s x
+    at-end : ne (double w) x ≡ false → leb (2 ^ spanOf s) w ≡ improperCause s x
     unfolding ne
     at-end h =
         let whole : isWhole x ≡ true = sym (tested-whole x f t) ∙ not-false (eq (double (number x)) x) (rw cut at h) in
-        let power : 1 * 2 ^ spanOf s % 2 ^ 64 ≡ 2 ^ spanOf s = rw (one-mul (2 ^ spanOf s)) (mod-eq-of-lt (pow-lt {j = 64} (omega (arith, b .short)))) in
-        rw (whole, power, cut)
+        rw (whole, cut)
 
 -- ---- the tests, one after the other
 
@@ -90,22 +87,22 @@ returns-4 c =
     let d = c .before .before .before .before .before .before in
     at-fraction (d .pre) (d .args .x) (fitting d) (tested (c .before .before .before)) (c .before .before .truncating-f64-to-u64 .ensures) (c .if4 .taken)
 
-mul-result : tie.Need-mul-result
-mul-result c = search needs
+mul-power : tie.Need-mul-power
+mul-power c = search needs
 
-sub-result : tie.Need-sub-result
-sub-result c = search needs
+sub-power : tie.Need-sub-power
+sub-power c = search needs
 
-mul-result-2 : tie.Need-mul-result-2
-mul-result-2 c = search needs
+mul-power-2 : tie.Need-mul-power-2
+mul-power-2 c = omega (arith, c .before .before .before .before .before .before .before .before .pre .short)
 
-shl-result : tie.Need-shl-result
-shl-result c = search needs
+power-requires : tie.Need-power-requires
+power-requires c κs = c .before .before .before .before .before .before .before .before .pre .short
 
 returns-5 : tie.Need-returns-5
 returns-5 c =
-    let d = c .before .before .before .before .before .before .before .before in
-    at-end (d .pre) (d .args .x) (fitting d) (tested (c .before .before .before .before .before)) (c .before .before .before .before .truncating-f64-to-u64 .ensures) (c .before .before .if4 .left)
+    let d = c .before .before .before .before .before .before .before .before .before in
+    rw (c .power .ensures) (at-end (d .pre) (d .args .x) (fitting d) (tested (c .before .before .before .before .before .before)) (c .before .before .before .before .before .truncating-f64-to-u64 .ensures) (c .before .before .before .if4 .left))
 
 pub improper-cause-spec : {M : Type 1} → statement M
 improper-cause-spec =
@@ -118,8 +115,8 @@ improper-cause-spec =
     truncating-f64-to-u64-requires
     int-to-float-if4
     returns-4
-    mul-result
-    sub-result
-    mul-result-2
-    shl-result
+    mul-power
+    sub-power
+    mul-power-2
+    power-requires
     returns-5)

@@ -1,7 +1,6 @@
 -- `pack_taken` meets its contract: w is the word of the coefficients from i on, which is no more than the whole. Assumes nothing.
-use Prim.Native.Nat.{ℕ, _+_, _-_, _*_, _^_, _≤_, _<_}
+use Prim.Native.Nat.{_+_, _-_, _*_, _^_, _≤_, _<_}
 use mathlib.Core.Path.{_≡_}
-use mathlib.Core.List.{List}
 use native.Mathlib.Nat.{lt-of-le-of-lt}
 use native.Mathlib.Omega.{arith}
 use lib.ListN.{length, drop, getD, drop-of-length-le}
@@ -9,8 +8,8 @@ use lib.Pow.{pow-pos}
 use denote.Ref.{now}
 use borrow.Author.Needs.{needs}
 use Rattle.polynomials.specs.Places.{packed}
-use Rattle.polynomials.specs.PlaceLaws.{packed-turn, packed-part}
-use Rattle.packed.specs.Coefficients.{taken, takenOne, taken-length, taken-at}
+use Rattle.packed.specs.Coefficients.{taken, takenOne, taken-length}
+use Rattle.packed.specs.BatchLaws.{taken-turn, taken-most}
 use Rattle.packed.proofs.words.pack_taken.Statement.{statement}
 use Rattle.packed.proofs.words.pack_taken.Tie as tie
 
@@ -20,24 +19,13 @@ Inv-loop p t xs q w₀ i₀ w i = (i ≤ length xs) × (w ≡ packed (2 ^ t) (dr
 abbrev μ-loop : tie.MeasureT-loop
 μ-loop p t xs q w₀ i₀ w i = i
 
--- ---- a turn, on plain numbers
-
-module _ (p t : ℕ) (xs : List ℕ) (i w : ℕ) (above : 0 < i) (top : i ≤ length xs) (inv : w ≡ packed (2 ^ t) (drop i (taken p xs))) where
-  -- it gives the word from one place below
-  turn : w * 2 ^ t + takenOne p (getD xs (i - 1) 0) ≡ packed (2 ^ t) (drop (i - 1) (taken p xs))
-  turn = rw (← taken-at p xs (i - 1)) (packed-turn (2 ^ t) (taken p xs) i w above (rw taken-length top) inv)
-
-  -- and it is at most the whole word
-  most : w * 2 ^ t + takenOne p (getD xs (i - 1) 0) ≤ packed (2 ^ t) (taken p xs)
-  most = rw turn (packed-part (2 ^ t) (pow-pos t) (taken p xs) (i - 1))
-
--- ---- the same of the loop's numbers
+-- ---- a turn gives no more than the whole word
 
 turned : (c : tie.In-loop Inv-loop μ-loop) → c .before .loop .w * 2 ^ c .before .before .before .before .args .t + takenOne (c .before .before .before .before .args .p) (getD (now (c .before .before .before .before .args .xs)) (c .before .loop .i - 1) 0) < 2 ^ 64
 turned c =
     let a = c .before .before .before .before .args in
     let l = c .before .loop in
-    lt-of-le-of-lt (most (a .p) (a .t) (now (a .xs)) (l .i) (l .w) (c .loop-test .taken) (l .inv .0) (l .inv .1)) (c .before .before .before .before .pre .2)
+    lt-of-le-of-lt (taken-most (2 ^ a .t) (a .p) (now (a .xs)) (l .i) (l .w) (pow-pos (a .t)) (c .loop-test .taken) (l .inv .0) (l .inv .1)) (c .before .before .before .before .pre .2)
 
 -- ---- the needs
 
@@ -74,7 +62,7 @@ loop-again : tie.Need-loop-again Inv-loop μ-loop
 loop-again c =
     let a = c .before .before .before .before .before .before .args in
     let l = c .before .before .before .loop in
-    (omega arith, rw (c .before .before .before .before .power .ensures, c .taken-one .ensures) (turn (a .p) (a .t) (now (a .xs)) (l .i) (l .w) (c .before .before .loop-test .taken) (l .inv .0) (l .inv .1)))
+    (omega arith, rw (c .before .before .before .before .power .ensures, c .taken-one .ensures) (taken-turn (2 ^ a .t) (a .p) (now (a .xs)) (l .i) (l .w) (c .before .before .loop-test .taken) (l .inv .0) (l .inv .1)))
 
 returns : tie.Need-returns Inv-loop μ-loop
 returns c =

@@ -2,16 +2,16 @@
 use Prim.Native.Nat.{ℕ, _+_, _-_, _*_, _/_, _%_, _^_, _≤_, _<_}
 use mathlib.Core.Path.{_≡_}
 use mathlib.Core.List.{List}
-use native.Mathlib.Nat.{le-trans, lt-of-le-of-lt, mul-le-mul-right}
+use native.Mathlib.Nat.{lt-of-le-of-lt, mul-le-mul-right}
 use native.Mathlib.Omega.{arith}
 use lib.ListN.{drop, drop-of-length-le}
 use lib.Pow.{pow-pos}
 use borrow.Author.Needs.{needs}
 use Rattle.polynomials.specs.Indices.{upto}
-use Rattle.polynomials.specs.IndexLaws.{length-upto, upto-at}
+use Rattle.polynomials.specs.IndexLaws.{length-upto}
 use Rattle.polynomials.specs.Places.{packed, reduced}
-use Rattle.polynomials.specs.PlaceLaws.{packed-turn, packed-part, power-power}
-use Rattle.polynomials.specs.ReductionLaws.{reduced-most}
+use Rattle.polynomials.specs.PlaceLaws.{power-power}
+use Rattle.polynomials.specs.ReductionLaws.{reduced-turn, reduced-turn-most}
 use Rattle.packed.proofs.words.reduce_fields.Statement.{statement}
 use Rattle.packed.proofs.words.reduce_fields.Tie as tie
 
@@ -27,15 +27,11 @@ abbrev μ-loop : tie.MeasureT-loop
 -- ---- a turn, on plain numbers
 
 module _ (p t m word i w : ℕ) (above : 0 < i) (top : i ≤ m) (inv : w ≡ packed (2 ^ t) (drop i (residuesOf p t m word))) where
-  -- it gives the word from one place below
   turn : w * 2 ^ t + word / 2 ^ ((i - 1) * t) % 2 ^ t % p ≡ packed (2 ^ t) (drop (i - 1) (residuesOf p t m word))
-  turn =
-      rw (← power-power 2 t (i - 1), ← upto-at m (reduced p (2 ^ t) word) (i - 1) (omega arith))
-      (packed-turn (2 ^ t) (residuesOf p t m word) i w above (rw length-upto top) inv)
+  turn = rw (← power-power 2 t (i - 1)) (reduced-turn p (2 ^ t) m word i w above top inv)
 
-  -- and it is at most the word given
   most : w * 2 ^ t + word / 2 ^ ((i - 1) * t) % 2 ^ t % p ≤ word
-  most = rw turn (le-trans (packed-part (2 ^ t) (pow-pos t) (residuesOf p t m word) (i - 1)) (reduced-most p (2 ^ t) m word (pow-pos t)))
+  most = rw (← power-power 2 t (i - 1)) (reduced-turn-most p (2 ^ t) m word i w (pow-pos t) above top inv)
 
 -- ---- the same of the loop's numbers
 
