@@ -7,6 +7,30 @@ ALL = 2**64 - 1
 SEVEN = 7
 
 
+# two flat lists for k = 2: lengths that differ, or are no multiple of k, and at the end lengths that will do
+SHAPES = [
+    ([1, 2], [2, 2, 1, 1]),
+    ([1, 2, 1, 1], [2, 2]),
+    ([], [2, 2]),
+    ([1, 2], []),
+    ([1], [2]),
+    ([1, 2, 1], [2, 2, 1]),
+    ([1, 2, 1], [2, 2]),
+    ([1, 2, 1, 1], [2, 2, 1, 1]),
+]
+
+# two such lists for p = 3 with a coefficient 3 or more: in the first, in the second, in both, at either end; the first of several
+COEFFICIENTS = [
+    ([3, 2, 1, 1], [2, 2, 1, 1]),
+    ([1, 2, 1, 3], [2, 2, 1, 1]),
+    ([1, 2, 1, 1], [3, 2, 1, 1]),
+    ([1, 2, 1, 1], [2, 2, 1, 3]),
+    ([1, 2, 1, 3], [3, 2, 1, 1]),
+    ([1, 4, 65535, 3], [2, 2, 1, 1]),
+    ([1, 2, 1, 1], [2, 65535, 3, 4]),
+]
+
+
 def ranges(p, k, n):
     if not 2 <= p <= 65536:
         return 1

@@ -15,7 +15,7 @@ from itertools import count, islice
 from math import inf, nan
 
 sys.path.insert(0, os.path.join(os.path.dirname(os.path.abspath(__file__)), "..", "..", "expected"))
-from document import ALL, check, listed, made, words
+from document import ALL, COEFFICIENTS, SHAPES, check, listed, made, words
 
 SIGN = 2**63
 LANE_BITS = 53
@@ -136,6 +136,13 @@ def show_make(*s):
     print(words("make", s) + ":", make(s))
 
 
+def show_makes(*cases):
+    """Settings, each after the number that is known for it, or 0."""
+    for number, *s in cases:
+        assert refused_lane(s) == number
+        show_make(*s)
+
+
 def show_sum(lane, xs, ys):
     word, answer = lane_sum(lane, xs, ys)
     print(words("sum", lane.listed(), "of", listed(xs), "by", listed(ys)) + ":", answer)
@@ -168,19 +175,15 @@ def largest_batch(p, k, t, n):
 
 
 # make: what document 01 prints
-assert refused_lane((3, 4, 7, 7)) == 0 and refused_lane((3, 4, 8, 7)) == 16
-show_make(3, 4, 7, 7)
-show_make(3, 4, 8, 7)
+show_makes((0, 3, 4, 7, 7), (16, 3, 4, 8, 7))
 # 16
 for p, k, n, last in [(3, 1, 1, 52), (3, 2, 2, 17), (3, 3, 2, 10), (3, 4, 1, 7), (3, 5, 1, 5)]:
     assert (2 * k - 1) * last < 53 <= (2 * k - 1) * (last + 1)
     for t in [last, last + 1, 63 // (2 * k - 1)]:
         show_make(p, k, t, n)
-for number, *s in [(0, 2, 6, 4, 2), (16, 2, 6, 5, 2), (0, 2, 7, 4, 2), (6, 2, 7, 5, 2), (5, 2, 8, 3, 1), (16, 2, 8, 4, 1)]:
-    assert refused_lane(s) == number
-    show_make(*s)
+show_makes((0, 2, 6, 4, 2), (16, 2, 6, 5, 2), (0, 2, 7, 4, 2), (6, 2, 7, 5, 2), (5, 2, 8, 3, 1), (16, 2, 8, 4, 1))
 # 1 to 6, each before those after it, and before 16
-for number, *s in [
+show_makes(
     (1, 1, 2, 5, 2),
     (1, 65537, 1, 40, 1),
     (2, 3, 0, 5, 2),
@@ -201,11 +204,9 @@ for number, *s in [
     (5, 65536, 2, 18, 1),
     (6, 3, 8, 6, 1),
     (5, 3, 8, 5, 1),
-]:
-    assert refused_lane(s) == number
-    show_make(*s)
+)
 # ends
-for number, *s in [
+show_makes(
     (0, 2, 1, 1, 1),
     (0, 65536, 1, 32, 1),
     (5, 65536, 1, 31, 1),
@@ -213,9 +214,7 @@ for number, *s in [
     (5, 65536, 1, 51, 1048576),
     (0, 256, 2, 17, 1),
     (5, 257, 2, 17, 1),
-]:
-    assert refused_lane(s) == number
-    show_make(*s)
+)
 # inverses
 for p in [2, 5, 7, 10, 49, 127, 929, 32768, 65521, 65535]:
     show_make(p, 1, 52, 1)
@@ -283,16 +282,7 @@ show_reduced(LONG, [1, 0, 0, 0, 0, 0, 0], [1, 0, 0, 0, 0, 0, 0])
 show_reduced(LONG, [0, 0, 0, 0, 0, 0, 1], [0, 0, 0, 0, 0, 0, 1])
 show_reduced(LONG, [1, 0, 1, 1, 0, 1, 1], [0, 1, 1, 0, 1, 1, 1])
 # 9
-for xs, ys in [
-    ([1, 2], [2, 2, 1, 1]),
-    ([1, 2, 1, 1], [2, 2]),
-    ([], [2, 2]),
-    ([1, 2], []),
-    ([1], [2]),
-    ([1, 2, 1], [2, 2, 1]),
-    ([1, 2, 1], [2, 2]),
-    ([1, 2, 1, 1], [2, 2, 1, 1]),
-]:
+for xs, ys in SHAPES:
     show_sum(Lane(SMALL), xs, ys)
 show_sum(Lane((65536, 1, 40, 256)), [1, 2, 3], [2, 2, 65535])
 show_sum(Lane((65536, 1, 40, 256)), [1, 2, 3], [2, 2])
@@ -308,16 +298,7 @@ show_sum(Lane(ONE), [1], [2])
 show_sum(Lane(ONE), [1] * 2, [2] * 2)
 show_sum(Lane((65536, 1, 52, 1048576)), [1] * 100, [2] * 100)
 # 8
-for xs, ys in [
-    ([3, 2, 1, 1], [2, 2, 1, 1]),
-    ([1, 2, 1, 3], [2, 2, 1, 1]),
-    ([1, 2, 1, 1], [3, 2, 1, 1]),
-    ([1, 2, 1, 1], [2, 2, 1, 3]),
-    ([1, 2, 1, 3], [3, 2, 1, 1]),
-    ([1, 4, 65535, 3], [2, 2, 1, 1]),
-    ([1, 2, 1, 1], [2, 65535, 3, 4]),
-    ([3] * 4, [3] * 4),
-]:
+for xs, ys in [*COEFFICIENTS, ([3] * 4, [3] * 4)]:
     show_sum(Lane(SMALL), xs, ys)
 for x, y in [(928, 928), (929, 928), (928, 929)]:
     show_sum(Lane((929, 1, 52, 1)), [x], [y])

@@ -14,7 +14,7 @@ from collections import Counter
 from functools import cached_property
 
 sys.path.insert(0, os.path.join(os.path.dirname(os.path.abspath(__file__)), "..", "..", "expected"))
-from document import ALL, SEVEN, check, listed, made, words
+from document import ALL, COEFFICIENTS, SEVEN, SHAPES, check, listed, made, words
 
 MOST = 1000000
 RESIDUES = 15
@@ -408,16 +408,7 @@ show_clause(LARGE, [(255, after(LARGE), [], False)], [65535])
 show_clause(EIGHT, [(1, after(EIGHT), [], False)], [1] * 8)
 
 # feed: 9
-for xs, ys in [
-    ([1, 2], [2, 2, 1, 1]),
-    ([1, 2, 1, 1], [2, 2]),
-    ([], [2, 2]),
-    ([1, 2], []),
-    ([1], [2]),
-    ([1, 2, 1], [2, 2, 1]),
-    ([1, 2, 1], [2, 2]),
-    ([1, 2, 1, 1], [2, 2, 1, 1]),
-]:
+for xs, ys in SHAPES:
     show_feed(THIRD, xs, ys)
 show_feed(Record(LARGE), [1, 2, 3], [2, 2, 65535])
 show_feed(Record(LARGE), [1, 2, 3], [2, 2])
@@ -431,15 +422,7 @@ show_feed(Record(SMALL, MOST, 0, [1, 1, 1]), [], [])
 for length in [8, 16]:
     show_feed(Record(EIGHT, 999999, 0, [1] * 15), [1] * length, [1] * length)
 # 8
-for xs, ys in [
-    ([3, 2, 1, 1], [2, 2, 1, 1]),
-    ([1, 2, 1, 3], [2, 2, 1, 1]),
-    ([1, 2, 1, 1], [3, 2, 1, 1]),
-    ([1, 2, 1, 1], [2, 2, 1, 3]),
-    ([1, 2, 1, 3], [3, 2, 1, 1]),
-    ([1, 4, 65535, 3], [2, 2, 1, 1]),
-    ([1, 2, 1, 1], [2, 65535, 3, 4]),
-]:
+for xs, ys in COEFFICIENTS:
     show_feed(THIRD, xs, ys)
 for x, y in [(928, 928), (929, 928), (928, 929)]:
     show_feed(Record((929, 1, 63, 1048576)), [x], [y])

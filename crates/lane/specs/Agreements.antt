@@ -21,7 +21,7 @@ use Rattle.polynomials.specs.Places.{packed, field}
 use Rattle.polynomials.specs.ReductionLaws.{reduced-most, field-reduced}
 use Rattle.doubles.specs.Whole.{double, number, isWhole, Held}
 use Rattle.doubles.specs.Exactly.{held, held-number, held-whole}
-use Rattle.packed.specs.Answers.{Answer, answered, refused, fine, refuse}
+use Rattle.packed.specs.Answers.{answered, fine, refuse}
 use Rattle.packed.specs.AnswerLaws.{passed, passed-first, passed-last}
 use Rattle.packed.specs.SharedAnswers.{packed-once}
 use Rattle.packed.specs.Settings.{settingChecks, base, places, spanOf}
@@ -36,13 +36,6 @@ use Rattle.lane.specs.LaneLaws.{held-checked, held-within, word-small}
 use Rattle.lane.specs.SumLaws.{Listed, listed, listed-operands, listed-few, word-fits, sum-small}
 use Rattle.lane.specs.declared.Lane.{Lane}
 use Rattle.lane.specs.declared.LaneAnswer.the-variants as inLane
-
-value-is : {x y : Float} → answered x ≡ answered y → x ≡ y
-value-is e = ap (λ (a : Answer Float). value a) e
-  where
-    value : Answer Float → Float
-    value (answered z) = z
-    value (refused number place) = double 0
 
 accepted : (l : Lane) → heldCause l ≡ false → settingChecks (l .setting) ≡ fine
 unfolding makeChecks
@@ -66,7 +59,9 @@ module _ (l : Lane) (xs ys : List ℕ) (x : Float) (promise : LaneSums l xs ys (
   made = passed (heldCause l) 12 0 _ tt (sum-told .0) .0
 
   holds : Held x (sumWord (l .setting) xs ys)
-  holds = rw (value-is (sum-told .1)) at (held (sumWord (l .setting) xs ys) (omega (arith, sum-small lists)))
+  holds =
+      let is : double (sumWord (l .setting) xs ys) ≡ x = let e = sum-told .1 in cc in
+      rw is at (held (sumWord (l .setting) xs ys) (omega (arith, sum-small lists)))
 
   pub sum-schoolbook : SumAnswer (l .setting) xs ys x
   sum-schoolbook = record {
@@ -101,7 +96,8 @@ module _ (l : Lane) (x y : Float) (promise : LaneReduces l x (inLane.Word y)) wh
 
   pub reduced-holds : Held y (reducedWord s (number x))
   reduced-holds =
-      rw (value-is (reduce-told .1)) at (held (reducedWord s (number x)) (omega (arith, short, word-small (held-within l (checked .0)) (number x) below)))
+      let is : double (reducedWord s (number x)) ≡ y = let e = reduce-told .1 in cc in
+      rw is at (held (reducedWord s (number x)) (omega (arith, short, word-small (held-within l (checked .0)) (number x) below)))
 
   pub reduce-agrees : (r : Packed) → Reduces s (number x) r → r ≡ inPacked.Word (number y)
   unfolding reduceAnswer wordChecks

@@ -15,17 +15,14 @@
 --     sum-all                         all pairs
 use Prim.Native.Nat.{ℕ, suc, _+_, _-_, _*_, _/_, _^_, _≤_, _<_}
 use mathlib.Core.Path.{_≡_, refl, sym, ap, _∙_}
-use mathlib.Core.Bool.{not}
 use mathlib.Core.List.{List}
-use mathlib.Mathlib.Data.Bool.Basic.{or-eq-false-eq-eq-false-and-eq-false}
 use native.Mathlib.Nat.{lt-of-le-of-lt, suc-mul, div-mul-le-self, mul-le-mul-right}
 use native.Mathlib.Numerals.{add-one}
 use native.Mathlib.Omega.{arith}
-use lib.Dec.{eqb}
 use lib.ListN.{length, drop, drop-of-length-le}
 use lib.Pow.{pow-pos}
 use lib.Ieee.{Float, binary64, ofBits}
-use borrow.Author.Tests.{eqb-true, ltb-false, not-false}
+use borrow.Author.Tests.{ltb-false}
 use Rattle.polynomials.specs.Indices.{sumTo}
 use Rattle.polynomials.specs.IndexLaws.{sum-fewer}
 use Rattle.polynomials.specs.Lists.{coefficient, part, Below, Pairs, sumOfProducts}
@@ -42,6 +39,7 @@ use Rattle.packed.specs.Coefficients.{taken, takenOne, taken-length, taken-low,
 use Rattle.packed.specs.Bounds.{Bounds, batch-within}
 use Rattle.packed.specs.Running.{fedPairs, pairsCause}
 use Rattle.packed.specs.BatchLaws.{taken-block, taken-turn, taken-most}
+use Rattle.packed.specs.RunningChecks.{pairs-shape}
 use Rattle.packed.specs.FeedLaws.{fed-operands, fed-count}
 use Rattle.packed.specs.WordLaws.{within-span}
 use Rattle.packed.specs.declared.setting.Setting.{Setting}
@@ -99,7 +97,7 @@ listed l xs ys e =
     let below = coefficients-check (s .p) xs ys (omega (arith, within .bounded .range .choice .p-low)) .0 (c .1) in
     record {
       within = within;
-      same-size = eqb-true (length xs) (length ys) (not-false _ (or-eq-false-eq-eq-false-and-eq-false (not (eqb (length xs) (length ys))) _ .0 (b .0) .0));
+      same-size = pairs-shape (s .k) (length xs) (length ys) .0 (b .0) .0;
       few = ltb-false (s .n) (length xs / s .k) (c .0);
       left-below = below .0;
       right-below = below .1;

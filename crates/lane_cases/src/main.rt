@@ -545,6 +545,10 @@ fn show_improper(lane: Lane) {
             1e300,
         ],
     );
+    show_improper_ends(lane);
+}
+
+fn show_improper_ends(lane: Lane) {
     // the smallest subnormal with either sign, the largest subnormal, the smallest normal double
     show_words(
         lane,

@@ -1,4 +1,5 @@
 -- What passing the checks of feed and close says, and that 18 never holds. Assumes nothing.
+--     pairs-shape, pairs-refused    9 is not given exactly where two lists have one length, a multiple of k; and else it is
 --     pairs-checked, pairs-pass     nothing is refused up to 8 exactly where the lists can be fed
 --     never-feeds-over              no batch of a coherent record reaches 2^64
 --     feed-refused, feed-fine       so feed refuses what is refused up to 8, and nothing else
@@ -10,12 +11,13 @@ use Prim.Native.Nat.{ℕ, zero, suc, _+_, _-_, _/_, _%_, _^_, _≤_, _<_, min}
 use mathlib.Core.Path.{_≡_, refl}
 use mathlib.Core.Bool.{Bool, true, false, not, true≢false}
 use mathlib.Core.List.{List, _∷_}
+use mathlib.Core.Logic.{_↔_}
 use mathlib.Mathlib.Data.Bool.Basic.{or-eq-false-eq-eq-false-and-eq-false}
 use native.Mathlib.Nat.{mod-lt}
 use native.Mathlib.Omega.{arith}
 use lib.Dec.{eqb}
 use lib.ListN.{length}
-use borrow.Author.Tests.{eqb-true, eq-eqb, ltb-false, le-ltb, lt-leb}
+use borrow.Author.Tests.{eqb-true, eq-eqb, not-false, ltb-false, le-ltb, lt-leb}
 use Rattle.polynomials.specs.Indices.{filled}
 use Rattle.polynomials.specs.IndexLaws.{length-upto, upto-at, first-none}
 use Rattle.polynomials.specs.Lists.{coefficient, Pair, Pairs}
@@ -41,9 +43,19 @@ use Rattle.packed.specs.declared.running.Taken.{Taken}
 use Rattle.packed.specs.declared.running.Taken.the-variants as inTaken
 use Rattle.packed.specs.declared.running.Closed.the-variants as inClosed
 
-not-not : (b : Bool) → not b ≡ false → b ≡ true
-not-not true e = refl
-not-not false e = absurd (true≢false e)
+pub pairs-shape : (k m n : ℕ) → (pairsCause k m n ≡ false) ↔ ((m ≡ n) × (m % k ≡ 0))
+pairs-shape k m n = (
+  λ e. let both = or-eq-false-eq-eq-false-and-eq-false (not (eqb m n)) (not (eqb (m % k) 0)) .0 e in
+      (eqb-true m n (not-false (eqb m n) (both .0)), eqb-true (m % k) 0 (not-false (eqb (m % k) 0) (both .1))),
+  λ h. rw (eq-eqb m n (h .0), eq-eqb (m % k) 0 (h .1)),
+)
+
+pub pairs-refused : (k m n : ℕ) → ((m ≡ n) × (m % k ≡ 0) → ⊥) → pairsCause k m n ≡ true
+pairs-refused k m n h = go (pairsCause k m n) refl
+  where
+    go : (c : Bool) → pairsCause k m n ≡ c → c ≡ true
+    go true e = refl
+    go false e = absurd (h (pairs-shape k m n .0 e))
 
 pub pairs-checked : (r : Record) (xs ys : List ℕ) → pairChecks r xs ys ≡ fine → Feeding (r .setting) (r .sum) xs ys
 unfolding pairChecks
@@ -53,12 +65,12 @@ pairs-checked r xs ys e =
     let b = passed (pairsCause (s .k) (length xs) (length ys)) 9 0 _ tt (a .1) in
     let c = passed (fullCause (r .sum .total) (length xs / s .k)) 13 0 _ tt (b .1) in
     let h = coherent-is r .0 (a .0) in
-    let shape = or-eq-false-eq-eq-false-and-eq-false (not (eqb (length xs) (length ys))) (not (eqb (length xs % s .k) 0)) .0 (b .0) in
+    let shape = pairs-shape (s .k) (length xs) (length ys) .0 (b .0) in
     let below = coefficients-check (s .p) xs ys (omega (arith, bounds s (h .accepted) .range .choice .p-low)) .0 (c .1) in
     record {
       coherent = h;
-      same-size = eqb-true (length xs) (length ys) (not-not (eqb (length xs) (length ys)) (shape .0));
-      whole = eqb-true (length xs % s .k) 0 (not-not (eqb (length xs % s .k) 0) (shape .1));
+      same-size = shape .0;
+      whole = shape .1;
       room = ltb-false mostPairs (r .sum .total + length xs / s .k) (c .0);
       left-below = below .0;
       right-below = below .1;
@@ -70,8 +82,7 @@ pairs-pass r xs ys f =
     let s = r .setting in
     rw (
       coherent-is r .1 (f .coherent),
-      eq-eqb (length xs) (length ys) (f .same-size),
-      eq-eqb (length xs % s .k) 0 (f .whole),
+      pairs-shape (s .k) (length xs) (length ys) .1 (f .same-size, f .whole),
       le-ltb mostPairs (r .sum .total + length xs / s .k) (f .room),
       coefficients-check (s .p) xs ys (omega (arith, bounds s (f .coherent .accepted) .range .choice .p-low)) .1 (f .left-below, f .right-below),
     )

@@ -6,9 +6,10 @@ use mathlib.Core.List.{List}
 use lib.ListN.{length}
 use denote.Ref.{now}
 use borrow.Author.Needs.{needs}
-use borrow.Author.Tests.{eq-eqb, ne-eqb, lt-ltb, le-ltb}
+use borrow.Author.Tests.{lt-ltb, le-ltb}
 use Rattle.packed.specs.Answers.{refused}
 use Rattle.packed.specs.Coefficients.{coefficientsCheck}
+use Rattle.packed.specs.RunningChecks.{pairs-shape, pairs-refused}
 use Rattle.lane.specs.Lanes.{heldCause, sumChecks}
 use Rattle.lane.specs.LaneLaws.{Working, working}
 use Rattle.lane.specs.declared.Lane.{Lane}
@@ -23,23 +24,18 @@ module _ (l : Lane) (xs ys : List ℕ) where
   at-12 e = rw e
 
   module _ (ok : heldCause l ≡ false) where
-    at-9 : (length xs ≡ length ys → ⊥) → refused 9 0 ≡ sumChecks l xs ys
+    at-9 : ((length xs ≡ length ys) × (length xs % l .setting .k ≡ 0) → ⊥) → refused 9 0 ≡ sumChecks l xs ys
     unfolding sumChecks
-    at-9 h = rw (ok, ne-eqb (length xs) (length ys) h)
+    at-9 h = rw (ok, pairs-refused (l .setting .k) (length xs) (length ys) h)
 
-    module _ (same : length xs ≡ length ys) where
-      at-9-whole : (length xs % l .setting .k ≡ 0 → ⊥) → refused 9 0 ≡ sumChecks l xs ys
+    module _ (shape : (length xs ≡ length ys) × (length xs % l .setting .k ≡ 0)) where
+      at-13 : l .setting .n < length xs / l .setting .k → refused 13 0 ≡ sumChecks l xs ys
       unfolding sumChecks
-      at-9-whole h = rw (ok, eq-eqb (length xs) (length ys) same, ne-eqb (length xs % l .setting .k) 0 h)
+      at-13 h = rw (ok, pairs-shape (l .setting .k) (length xs) (length ys) .1 shape, lt-ltb (l .setting .n) (length xs / l .setting .k) h)
 
-      module _ (whole : length xs % l .setting .k ≡ 0) where
-        at-13 : l .setting .n < length xs / l .setting .k → refused 13 0 ≡ sumChecks l xs ys
-        unfolding sumChecks
-        at-13 h = rw (ok, eq-eqb (length xs) (length ys) same, eq-eqb (length xs % l .setting .k) 0 whole, lt-ltb (l .setting .n) (length xs / l .setting .k) h)
-
-        from-8 : length xs / l .setting .k ≤ l .setting .n → coefficientsCheck (l .setting .p) xs ys ≡ sumChecks l xs ys
-        unfolding sumChecks
-        from-8 h = rw (ok, eq-eqb (length xs) (length ys) same, eq-eqb (length xs % l .setting .k) 0 whole, le-ltb (l .setting .n) (length xs / l .setting .k) h)
+      from-8 : length xs / l .setting .k ≤ l .setting .n → coefficientsCheck (l .setting .p) xs ys ≡ sumChecks l xs ys
+      unfolding sumChecks
+      from-8 h = rw (ok, pairs-shape (l .setting .k) (length xs) (length ys) .1 shape, le-ltb (l .setting .n) (length xs / l .setting .k) h)
 
 -- ---- what is known past 12
 
@@ -58,13 +54,13 @@ returns : tie.Need-returns
 returns c = let a = c .before .before .before .before .args in at-12 (a .lane) (now (a .xs)) (now (a .ys)) (sym (c .before .held-cause .ensures) ∙ c .if1 .taken)
 
 returns-2 : tie.Need-returns-2
-returns-2 c = let a = c .before .before .before .before .before .before .args in at-9 (a .lane) (now (a .xs)) (now (a .ys)) (passed (c .before)) (c .if2 .taken)
+returns-2 c = let a = c .before .before .before .before .before .before .args in at-9 (a .lane) (now (a .xs)) (now (a .ys)) (passed (c .before)) (λ h. c .if2 .taken (h .0))
 
 rem-if3 : tie.Need-rem-if3
 rem-if3 c = made (c .before .before) .within .bounded .range .choice .k-low
 
 returns-3 : tie.Need-returns-3
-returns-3 c = let a = c .before .before .before .before .before .before .before .before .args in at-9-whole (a .lane) (now (a .xs)) (now (a .ys)) (passed (c .before .before .before)) (c .before .before .if2 .left) (c .if3 .taken)
+returns-3 c = let a = c .before .before .before .before .before .before .before .before .args in at-9 (a .lane) (now (a .xs)) (now (a .ys)) (passed (c .before .before .before)) (λ h. c .if3 .taken (h .1))
 
 div-if4 : tie.Need-div-if4
 div-if4 c = made (c .before .before .before .before) .within .bounded .range .choice .k-low
@@ -72,7 +68,7 @@ div-if4 c = made (c .before .before .before .before) .within .bounded .range .ch
 returns-4 : tie.Need-returns-4
 returns-4 c =
     let a = c .before .before .before .before .before .before .before .before .before .before .before .args in
-    at-13 (a .lane) (now (a .xs)) (now (a .ys)) (passed (c .before .before .before .before .before .before)) (c .before .before .before .before .before .if2 .left) (c .before .before .before .if3 .left) (c .if4 .taken)
+    at-13 (a .lane) (now (a .xs)) (now (a .ys)) (passed (c .before .before .before .before .before .before)) (c .before .before .before .before .before .if2 .left, c .before .before .before .if3 .left) (c .if4 .taken)
 
 check-coefficients-requires : tie.Need-check-coefficients-requires
 check-coefficients-requires c κs = search needs
@@ -80,7 +76,7 @@ check-coefficients-requires c κs = search needs
 returns-5 : tie.Need-returns-5
 returns-5 c =
     let a = c .before .before .before .before .before .before .before .before .before .before .before .before .args in
-    c .check-coefficients .ensures ∙ from-8 (a .lane) (now (a .xs)) (now (a .ys)) (passed (c .before .before .before .before .before .before .before)) (c .before .before .before .before .before .before .if2 .left) (c .before .before .before .before .if3 .left) (c .before .if4 .left)
+    c .check-coefficients .ensures ∙ from-8 (a .lane) (now (a .xs)) (now (a .ys)) (passed (c .before .before .before .before .before .before .before)) (c .before .before .before .before .before .before .if2 .left, c .before .before .before .before .if3 .left) (c .before .if4 .left)
 
 pub check-sum-spec : {M : Type 1} → statement M
 check-sum-spec =

@@ -8,13 +8,14 @@ use native.Mathlib.Omega.{arith}
 use lib.ListN.{length}
 use denote.Ref.{now}
 use borrow.Author.Needs.{needs}
-use borrow.Author.Tests.{eq-eqb, ne-eqb, lt-ltb, le-ltb}
+use borrow.Author.Tests.{lt-ltb, le-ltb}
 use Rattle.packed.specs.Limits.{mostPairs}
 use Rattle.packed.specs.Answers.{refused}
 use Rattle.packed.specs.Coefficients.{coefficientsCheck}
 use Rattle.packed.specs.Bounds.{bounds}
 use Rattle.packed.specs.Running.{recordCause, Coherent, pairChecks}
 use Rattle.packed.specs.RunningLaws.{coherent-is}
+use Rattle.packed.specs.RunningChecks.{pairs-shape, pairs-refused}
 use Rattle.packed.specs.declared.running.Record.{Record}
 use Rattle.packed.proofs.running.check_pairs.Statement.{statement}
 use Rattle.packed.proofs.running.check_pairs.Tie as tie
@@ -27,24 +28,18 @@ module _ (r : Record) (xs ys : List ℕ) where
   at-12 e = rw e
 
   module _ (ok : recordCause r ≡ false) where
-    at-9 : (length xs ≡ length ys → ⊥) → refused 9 0 ≡ pairChecks r xs ys
+    at-9 : ((length xs ≡ length ys) × (length xs % r .setting .k ≡ 0) → ⊥) → refused 9 0 ≡ pairChecks r xs ys
     unfolding pairChecks
-    at-9 h = rw (ok, ne-eqb (length xs) (length ys) h)
+    at-9 h = rw (ok, pairs-refused (r .setting .k) (length xs) (length ys) h)
 
-    module _ (same : length xs ≡ length ys) where
-      at-9-whole : (length xs % r .setting .k ≡ 0 → ⊥) → refused 9 0 ≡ pairChecks r xs ys
+    module _ (shape : (length xs ≡ length ys) × (length xs % r .setting .k ≡ 0)) where
+      at-13 : mostPairs < r .sum .total + length xs / r .setting .k → refused 13 0 ≡ pairChecks r xs ys
       unfolding pairChecks
-      at-9-whole h = rw (ok, eq-eqb (length xs) (length ys) same, ne-eqb (length xs % r .setting .k) 0 h)
+      at-13 h = rw (ok, pairs-shape (r .setting .k) (length xs) (length ys) .1 shape, lt-ltb mostPairs (r .sum .total + length xs / r .setting .k) h)
 
-      module _ (whole : length xs % r .setting .k ≡ 0) where
-        at-13 : mostPairs < r .sum .total + length xs / r .setting .k → refused 13 0 ≡ pairChecks r xs ys
-        unfolding pairChecks
-        at-13 h = rw (ok, eq-eqb (length xs) (length ys) same, eq-eqb (length xs % r .setting .k) 0 whole, lt-ltb mostPairs (r .sum .total + length xs / r .setting .k) h)
-
-        module _ (few : r .sum .total + length xs / r .setting .k ≤ mostPairs) where
-          from-8 : coefficientsCheck (r .setting .p) xs ys ≡ pairChecks r xs ys
-          unfolding pairChecks
-          from-8 = rw (ok, eq-eqb (length xs) (length ys) same, eq-eqb (length xs % r .setting .k) 0 whole, le-ltb mostPairs (r .sum .total + length xs / r .setting .k) few)
+      from-8 : r .sum .total + length xs / r .setting .k ≤ mostPairs → coefficientsCheck (r .setting .p) xs ys ≡ pairChecks r xs ys
+      unfolding pairChecks
+      from-8 h = rw (ok, pairs-shape (r .setting .k) (length xs) (length ys) .1 shape, le-ltb mostPairs (r .sum .total + length xs / r .setting .k) h)
 
 -- ---- what is known past each check
 
@@ -63,13 +58,17 @@ returns : tie.Need-returns
 returns c = at-12 (c .before .before .before .before .args .running) (now (c .before .before .before .before .args .xs)) (now (c .before .before .before .before .args .ys)) (sym (c .before .record-cause .ensures) ∙ c .if1 .taken)
 
 returns-2 : tie.Need-returns-2
-returns-2 c = at-9 (c .before .before .before .before .before .before .args .running) (now (c .before .before .before .before .before .before .args .xs)) (now (c .before .before .before .before .before .before .args .ys)) (coherent (c .before)) (c .if2 .taken)
+returns-2 c =
+    let a = c .before .before .before .before .before .before .args in
+    at-9 (a .running) (now (a .xs)) (now (a .ys)) (coherent (c .before)) (λ h. c .if2 .taken (h .0))
 
 rem-if3 : tie.Need-rem-if3
 rem-if3 c = bounds _ (held (c .before .before) .accepted) .range .choice .k-low
 
 returns-3 : tie.Need-returns-3
-returns-3 c = at-9-whole (c .before .before .before .before .before .before .before .before .args .running) (now (c .before .before .before .before .before .before .before .before .args .xs)) (now (c .before .before .before .before .before .before .before .before .args .ys)) (coherent (c .before .before .before)) (c .before .before .if2 .left) (c .if3 .taken)
+returns-3 c =
+    let a = c .before .before .before .before .before .before .before .before .args in
+    at-9 (a .running) (now (a .xs)) (now (a .ys)) (coherent (c .before .before .before)) (λ h. c .if3 .taken (h .1))
 
 div-if4 : tie.Need-div-if4
 div-if4 c = bounds _ (held (c .before .before .before .before .before) .accepted) .range .choice .k-low
@@ -80,15 +79,17 @@ add-if4 c =
     omega (arith, held (c .before .before .before .before .before .before) .few, div-le-self (length (now (a .xs))) (a .running .setting .k), c .before .before .before .before .before .before .before .before .before .before .before .good .1 .0 .1)
 
 returns-4 : tie.Need-returns-4
-returns-4 c = at-13 (c .before .before .before .before .before .before .before .before .before .before .before .before .args .running) (now (c .before .before .before .before .before .before .before .before .before .before .before .before .args .xs)) (now (c .before .before .before .before .before .before .before .before .before .before .before .before .args .ys)) (coherent (c .before .before .before .before .before .before .before)) (c .before .before .before .before .before .before .if2 .left) (c .before .before .before .before .if3 .left) (c .if4 .taken)
+returns-4 c =
+    let a = c .before .before .before .before .before .before .before .before .before .before .before .before .args in
+    at-13 (a .running) (now (a .xs)) (now (a .ys)) (coherent (c .before .before .before .before .before .before .before)) (c .before .before .before .before .before .before .if2 .left, c .before .before .before .before .if3 .left) (c .if4 .taken)
 
 check-coefficients-requires : tie.Need-check-coefficients-requires
 check-coefficients-requires c κs = search needs
 
 returns-5 : tie.Need-returns-5
 returns-5 c =
-    let d = c .before .before .before .before .before .before .before .before .before .before .before .before .before in
-    c .check-coefficients .ensures ∙ from-8 (d .args .running) (now (d .args .xs)) (now (d .args .ys)) (coherent (c .before .before .before .before .before .before .before .before)) (c .before .before .before .before .before .before .before .if2 .left) (c .before .before .before .before .before .if3 .left) (c .before .if4 .left)
+    let a = c .before .before .before .before .before .before .before .before .before .before .before .before .before .args in
+    c .check-coefficients .ensures ∙ from-8 (a .running) (now (a .xs)) (now (a .ys)) (coherent (c .before .before .before .before .before .before .before .before)) (c .before .before .before .before .before .before .before .if2 .left, c .before .before .before .before .before .if3 .left) (c .before .if4 .left)
 
 pub check-pairs-spec : {M : Type 1} → statement M
 check-pairs-spec =
