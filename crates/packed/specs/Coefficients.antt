@@ -8,13 +8,14 @@
 --                               they pass exactly where every coefficient is below p
 --     ChecksCoefficients p xs ys r
 --                               the promise of check_coefficients; check-coefficients-once: it allows one answer only
+--     RefusesCoefficient i r    the promise of refusals::coefficient: 8 at place i; coefficient-once: it allows one refusal only
 --     NoneAbove most xs         no coefficient is above most
 --     taken p xs                what packing takes of a list: the list itself; takenOne p x, of one coefficient
 --     taken-length, taken-at, taken-join, taken-below, taken-low, taken-operand
 --                               it has the list's length; it is taken one by one, and of joined lists from each; of a list below p it is the
 --                               list, and so below p, and an operand
 use Prim.Native.Nat.{ℕ, _+_, _≤_, _<_}
-use mathlib.Core.Path.{_≡_, refl}
+use mathlib.Core.Path.{_≡_, refl, sym, ap, _∙_}
 use mathlib.Core.Bool.{Bool, true, false}
 use mathlib.Core.List.{List, _++_}
 use mathlib.Core.Logic.{_↔_}
@@ -30,6 +31,7 @@ use Rattle.polynomials.specs.ListLaws.{coefficient-past}
 use Rattle.packed.specs.Answers.{Verdict, fine, refuse}
 use Rattle.packed.specs.AnswerLaws.{passed-last}
 use Rattle.packed.specs.Settings.{checkedSays, checked-once}
+use Rattle.packed.specs.declared.refusals.Refusal.{Refusal}
 use Rattle.packed.specs.declared.setting.Checked.{Checked}
 
 abbrev pub tooLarge : ℕ → List ℕ → ℕ → Bool
@@ -55,6 +57,15 @@ ChecksCoefficients p xs ys r = checkedSays r ≡ coefficientsCheck p xs ys
 
 pub check-coefficients-once : (p : ℕ) (xs ys : List ℕ) (a b : Checked) → ChecksCoefficients p xs ys a → ChecksCoefficients p xs ys b → a ≡ b
 check-coefficients-once p xs ys a b = checked-once a b (coefficientsCheck p xs ys)
+
+abbrev pub RefusesCoefficient : ℕ → Refusal → Type 0
+RefusesCoefficient i r = (r .number ≡ 8) × (r .place ≡ i)
+
+pub coefficient-once : (i : ℕ) (a b : Refusal) → RefusesCoefficient i a → RefusesCoefficient i b → a ≡ b
+coefficient-once i a b ha hb = ap (λ (n : ℕ). made n (a .place)) (ha .0 ∙ sym (hb .0)) ∙ ap (made (b .number)) (ha .1 ∙ sym (hb .1))
+  where
+    made : ℕ → ℕ → Refusal
+    made n i = record { number = n; place = i }
 
 -- no index is bad exactly where every coefficient is below p, also the zeros past the end
 none-bad : (p : ℕ) (xs : List ℕ) → 0 < p → (length xs ≤ firstBad p xs) ↔ Below p xs

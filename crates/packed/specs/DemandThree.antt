@@ -3,7 +3,7 @@
 --     feed-coherent           a coherent record stays coherent, whatever it is fed
 --     feed-joined             feeding two lists one after the other is feeding them joined, from any coherent record
 --     batch-fields            the fields of a packed sum of at most n products are its coefficients
---     sum-more                feeding pairs to the record of some pairs gives the record of them all
+--     sum-more, sum-fresh     feeding pairs to the record of some pairs, or to a fresh one, gives the record of them all
 --     closing-sum             its closing coefficients are the schoolbook sum modulo p
 --     Demand3 s cs z          what demand 3 says of the record z after the pairs cs, and of closing it
 --     demand-3                and that it holds, however the pairs are cut into calls
@@ -273,6 +273,9 @@ module _ (s : Setting) (ok : settingChecks s ≡ fine) where
   -- the record of no pairs is a fresh one
   none : sumOf s [] ≡ freshSum
   none = let start : 0 / s .n * s .n ≡ 0 = rw (zero-div (s .n), zero-mul (s .n)) in rw (start, zero-mod (s .p))
+
+  pub sum-fresh : (cs : List Pair) → Pairs (s .p) (s .k) cs → afterPairs s freshSum cs ≡ sumOf s cs
+  sum-fresh cs pc = rw (← none) (sum-more s ok [] cs tt pc)
 
   module _ (b : Begun) (begun : Freshens s b) (calls : List Call) (z : Record) (fed : Calls (b .running) calls z) where
     abbrev cs : List Pair

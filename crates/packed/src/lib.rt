@@ -5,7 +5,7 @@ mod blocks;
 pub mod coefficients;
 mod columns;
 mod entries;
-mod limits;
+pub mod limits;
 mod overflow;
 pub mod places;
 pub mod products;

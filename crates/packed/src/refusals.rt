@@ -1,5 +1,6 @@
 // Document 01's refusals under their names, each with its number. A cause that has no index of its own has the place 0.
 ghost use mathlib.Core.Path.{_≡_};
+ghost use Rattle.packed.specs.Coefficients.{RefusesCoefficient};
 
 pub struct Refusal {
     pub number: u64,
@@ -76,14 +77,19 @@ pub const LANE: Refusal = Refusal {
     place: 0,
 };
 
+pub const JOB: Refusal = Refusal {
+    number: 17,
+    place: 0,
+};
+
 pub const OVERFLOW: Refusal = Refusal {
     number: 18,
     place: 0,
 };
 
-// 8 Coefficient, at the first bad index.
-pub(crate) fn coefficient(place: usize) -> Refusal
-    ensures { λ r. ⌜ (r .number ≡ 8) × (r .place ≡ place) ⌝ }
+// 8 Coefficient, at the first bad index. It is public for the crates above, so that the number stands here only.
+pub fn coefficient(place: usize) -> Refusal
+    ensures { λ r. ⌜ RefusesCoefficient place r ⌝ }
 {
     Refusal {
         number: 8,

@@ -1,7 +1,7 @@
 -- Laws of what runs over an index. Assumes nothing.
 --     length-upto, upto-at, upto-past               the list's length, its elements, and zero past its end
 --     upto-most                                     no element is above f's value there, also past the end
---     upto-same                                     element by element
+--     upto-same, upto-join                          element by element; some and then more
 --     filled-more                                   a filling loop's turn at i
 --     sum-zero, sum-front, sum-same, sum-window     sums: of zeros; first term apart; term by term; of a window of terms
 --     sum-join, sum-fewer, sum-part                 some terms and then more; fewer are no more; a part, where the others are zero
@@ -15,7 +15,7 @@ use Prim.Native.Nat.{ℕ, zero, suc, _+_, _-_, _*_, _≤_, _<_, min, zero-le}
 use mathlib.Core.Path.{_≡_, refl, sym, _∙_}
 use mathlib.Core.Bool.{Bool, true, false, true≢false}
 use mathlib.Core.Logic.{_↔_, ⊎-elim}
-use mathlib.Core.List.{List, [], _∷_}
+use mathlib.Core.List.{List, [], _∷_, _++_, append-nil, append-assoc}
 use native.Mathlib.Nat.{not-suc-le-zero, le-of-suc-le-suc, eq-or-lt-of-le, mul-le-mul-right, suc-mul, add-zero, add-suc, sub-zero}
 use native.Mathlib.Decide.{decLt}
 use native.Mathlib.Numerals.{add-one}
@@ -44,6 +44,10 @@ upto-past n f i h = List·getD-eq-default (upto n f) 0 {n = i} (rw length-upto h
 pub upto-same : (n : ℕ) (f g : ℕ → ℕ) → ((i : ℕ) → i < n → f i ≡ g i) → upto n f ≡ upto n g
 upto-same zero f g h = refl
 upto-same (suc n) f g h = rw (upto-same n f g (λ i l. h i (omega arith)), h n (omega arith))
+
+pub upto-join : (m n : ℕ) (f : ℕ → ℕ) → upto (m + n) f ≡ upto m f ++ upto n (λ r. f (m + r))
+upto-join m zero f = rw (add-zero m, append-nil (upto m f))
+upto-join m (suc n) f = rw (add-suc m n, upto-join m n f, append-assoc (upto m f) (upto n (λ r. f (m + r))) (f (m + n) ∷ []))
 
 pub upto-most : (n : ℕ) (f : ℕ → ℕ) (i : ℕ) → getD (upto n f) i 0 ≤ f i
 upto-most n f i = go (decLt i n)

@@ -2,7 +2,8 @@
 --     length-pairs-of              how many pairs two flat lists hold
 --     pairs-of-operands            lists below p hold pairs of operands
 --     pairs-join, pairs-parts      pairs of operands, joined and parted
---     pairs-more                   some pairs and then more
+--     pairs-same, pairs-more       the same pairs, given otherwise; some pairs and then more
+--     inside-first, inside-second  the blocks of joined lists, where the first fills whole blocks
 --     flat-join                    the pairs of flat lists joined are those of the first lists, then those of the second
 --     coefficient-sums             a sum of products joined is the sum of both, in every coefficient
 --     words-join                   and as packed numbers
@@ -48,7 +49,7 @@ pairs-parts p k (c ∷ cs) ds h =
 
 -- ---- flat lists
 
-pairs-same : (m : ℕ) (f f2 g g2 : ℕ → List ℕ) → ((r : ℕ) → r < m → f r ≡ f2 r) → ((r : ℕ) → r < m → g r ≡ g2 r) → pairsUpto m f g ≡ pairsUpto m f2 g2
+pub pairs-same : (m : ℕ) (f f2 g g2 : ℕ → List ℕ) → ((r : ℕ) → r < m → f r ≡ f2 r) → ((r : ℕ) → r < m → g r ≡ g2 r) → pairsUpto m f g ≡ pairsUpto m f2 g2
 pairs-same zero f f2 g g2 hf hg = refl
 pairs-same (suc m) f f2 g g2 hf hg =
     let rest : pairsUpto m (λ r. f (suc r)) (λ r. g (suc r)) ≡ pairsUpto m (λ r. f2 (suc r)) (λ r. g2 (suc r)) = pairs-same m (λ r. f (suc r)) (λ r. f2 (suc r)) (λ r. g (suc r)) (λ r. g2 (suc r)) (λ r h. hf (suc r) (omega arith)) (λ r h. hg (suc r) (omega arith)) in
@@ -62,10 +63,10 @@ pairs-more (suc m) n f g =
 
 -- a block of joined lists, where the first fills m blocks
 module _ (k m : ℕ) (xs us : List ℕ) (h : length xs ≡ m * k) where
-  inside-first : (r : ℕ) → r < m → block k (xs ++ us) r ≡ block k xs r
+  pub inside-first : (r : ℕ) → r < m → block k (xs ++ us) r ≡ block k xs r
   inside-first r l = upto-same k (λ j. coefficient (xs ++ us) (r * k + j)) (λ j. coefficient xs (r * k + j)) (λ j lj. List·getD-append xs us 0 (r * k + j) (omega (arith, mul-le-mul-right {m = suc r} {n = m} k l, suc-mul r k)))
 
-  inside-second : (r : ℕ) → block k (xs ++ us) (m + r) ≡ block k us r
+  pub inside-second : (r : ℕ) → block k (xs ++ us) (m + r) ≡ block k us r
   inside-second r = upto-same k (λ j. coefficient (xs ++ us) ((m + r) * k + j)) (λ j. coefficient us (r * k + j)) (λ j lj. at j)
     where
       at : (j : ℕ) → coefficient (xs ++ us) ((m + r) * k + j) ≡ coefficient us (r * k + j)
