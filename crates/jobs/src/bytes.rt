@@ -29,18 +29,26 @@ pub fn least(a: usize, b: usize) -> usize
     b
 }
 
-// The number in the w bytes from place i on, big-endian.
-pub fn number(bytes: &[u8], i: usize, w: usize) -> u64
-    requires { ⌜ (i + w ≤ length (now bytes)) × (w ≤ 4) ⌝ }
-    ensures { λ r. ⌜ r ≡ numberAt (now (bytes .entry)) i w ⌝ }
+// The number in the byte at place i.
+pub fn one(bytes: &[u8], i: usize) -> u64
+    requires { ⌜ i < length (now bytes) ⌝ }
+    ensures { λ r. ⌜ r ≡ numberAt (now (bytes .entry)) i 1 ⌝ }
 {
-    let mut n = 0u64;
-    let mut j = 0;
-    while j < w {
-        n = n * 256 + wide(bytes[i + j]);
-        j += 1;
-    }
-    n
+    wide(bytes[i])
+}
+
+// The number in the four bytes from place i on, big-endian.
+pub fn four(bytes: &[u8], i: usize) -> u64
+    requires { ⌜ i + 4 ≤ length (now bytes) ⌝ }
+    ensures { λ r. ⌜ r ≡ numberAt (now (bytes .entry)) i 4 ⌝ }
+{
+    highest_first(bytes[i], bytes[i + 1], bytes[i + 2], bytes[i + 3])
+}
+
+fn highest_first(a: u8, b: u8, c: u8, d: u8) -> u64
+    ensures { λ r. ⌜ r ≡ ((a * 256 + b) * 256 + c) * 256 + d ⌝ }
+{
+    ((wide(a) * 256 + wide(b)) * 256 + wide(c)) * 256 + wide(d)
 }
 
 // Coefficient i.

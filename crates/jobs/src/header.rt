@@ -10,9 +10,10 @@ ghost use Rattle.jobs.specs.States.{heldIn, headerAfter, settled};
 ghost use Rattle.jobs.specs.States.{blank as States·blank};
 use crate::adding::add_bytes;
 use crate::adding::pair_bytes;
+use crate::bytes::four;
 use crate::bytes::joined;
 use crate::bytes::least;
-use crate::bytes::number;
+use crate::bytes::one;
 use crate::state::Stage;
 use crate::state::State;
 use packed::limits::MOST_PAIRS;
@@ -67,10 +68,10 @@ fn check_header(header: &[u8]) -> Checked
     requires { ⌜ length (now header) ≡ headerBytes ⌝ }
     ensures { λ r. ⌜ checkedSays r ≡ headerChecks (now (header .entry)) ⌝ }
 {
-    if number(header, 4, 1) != 1 {
+    if one(header, 4) != 1 {
         return Checked::Refused(refusals::JOB);
     }
-    let length = number(header, 0, 4);
+    let length = four(header, 0);
     if length < COUNTED {
         return Checked::Refused(refusals::JOB);
     }
@@ -92,10 +93,10 @@ fn setting_in(header: &[u8]) -> Setting
     ensures { λ r. ⌜ r ≡ settingIn (now (header .entry)) ⌝ }
 {
     Setting {
-        p: number(header, 5, 4),
-        k: number(header, 9, 1),
-        t: number(header, 10, 1),
-        n: number(header, 11, 4),
+        p: four(header, 5),
+        k: one(header, 9),
+        t: one(header, 10),
+        n: four(header, 11),
     }
 }
 
@@ -103,7 +104,7 @@ fn declared_pairs(header: &[u8]) -> u64
     requires { ⌜ (length (now header) ≡ headerBytes) × (headerChecks (now header) ≡ fine) ⌝ }
     ensures { λ r. ⌜ r ≡ declaredPairs (now (header .entry)) ⌝ }
 {
-    (number(header, 0, 4) - COUNTED) / pair_bytes(number(header, 9, 1))
+    (four(header, 0) - COUNTED) / pair_bytes(one(header, 9))
 }
 
 // A refusal that no further byte can change.

@@ -3,17 +3,15 @@
 --     number bs            the number that bytes stand for
 --     numberAt bs i w      the number in the w bytes from place i on, where it is looked up in a longer list; past the end there are zeros
 --     numberAt-same        it is the same number where the same bytes stand
---     numberAt-below       the number in at most m bytes is below 256 ^ m
 --     length-bigEndian     w bytes
 --     number-bigEndian     reading gives the number back, where w bytes have room for it
 --     bigEndian-only       so no other number that has room stands in the same bytes
-use Prim.Native.Nat.{ℕ, zero, suc, _+_, _*_, _^_, _≤_, _<_}
+use Prim.Native.Nat.{ℕ, zero, suc, _+_, _*_, _^_, _<_}
 use mathlib.Core.Path.{_≡_, refl, sym, ap, _∙_}
 use mathlib.Core.List.{List, reverse, reverse-reverse}
-use native.Mathlib.Nat.{pow-suc, pow-le-pow-right, lt-of-lt-of-le}
 use native.Mathlib.Omega.{arith}
 use lib.ListN.{length, length-reverse}
-use Rattle.polynomials.specs.Lists.{coefficient, Below}
+use Rattle.polynomials.specs.Lists.{coefficient}
 use Rattle.polynomials.specs.Places.{packed, field, fields}
 use Rattle.polynomials.specs.IndexLaws.{length-upto}
 use Rattle.polynomials.specs.PlaceLaws.{packed-fields}
@@ -31,13 +29,6 @@ numberAt bs i (suc w) = numberAt bs i w * 256 + coefficient bs (i + w)
 pub numberAt-same : (xs bs : List ℕ) (i j w : ℕ) → ((r : ℕ) → r < w → coefficient xs (i + r) ≡ coefficient bs (j + r)) → numberAt xs i w ≡ numberAt bs j w
 numberAt-same xs bs i j zero h = refl
 numberAt-same xs bs i j (suc w) h = rw (numberAt-same xs bs i j w (λ r l. h r (omega arith)), h w (omega arith))
-
-below-own : (bs : List ℕ) (i w : ℕ) → Below 256 bs → numberAt bs i w < 256 ^ w
-below-own bs i zero h = omega arith
-below-own bs i (suc w) h = rw pow-suc (omega (arith, below-own bs i w h, h (i + w)))
-
-pub numberAt-below : (bs : List ℕ) (i w m : ℕ) → Below 256 bs → w ≤ m → numberAt bs i w < 256 ^ m
-numberAt-below bs i w m h l = lt-of-lt-of-le (below-own bs i w h) (pow-le-pow-right (omega arith) l)
 
 pub length-bigEndian : (w n : ℕ) → length (bigEndian w n) ≡ w
 length-bigEndian w n = length-reverse (fields 256 w n) ∙ length-upto w (field 256 n)

@@ -60,8 +60,8 @@ module _ (bs : List ℕ) (b : Begun bs) where
 begun : (c : tie.Else2) → Begun (now (c .before .before .before .before .before .args .header))
 begun c = record {
   all = c .before .before .before .before .before .pre;
-  version = sym (c .before .before .before .number .ensures) ∙ c .before .before .if1 .left;
-  counted = rw (c .before .number2 .ensures) at (c .if2 .left);
+  version = sym (c .before .before .before .one .ensures) ∙ c .before .before .if1 .left;
+  counted = rw (c .before .four .ensures) at (c .if2 .left);
 }
 
 accepted : (c : tie.After-enum-told) → settingChecks (c .before .before .before .setting-in .result) ≡ fine
@@ -72,19 +72,19 @@ choice c = bounds (c .before .before .before .setting-in .result) (accepted c) .
 
 -- ---- the needs
 
-number-requires : tie.Need-number-requires
-number-requires c κs = search needs
+one-requires : tie.Need-one-requires
+one-requires c κs = search needs
 
 returns : tie.Need-returns
-returns c = let a = c .before .before .before in at-version (now (a .args .header)) (a .pre) (λ e. c .if1 .taken (c .before .number .ensures ∙ e))
+returns c = let a = c .before .before .before in at-version (now (a .args .header)) (a .pre) (λ e. c .if1 .taken (c .before .one .ensures ∙ e))
 
-number-requires-2 : tie.Need-number-requires-2
-number-requires-2 c κs = search needs
+four-requires : tie.Need-four-requires
+four-requires c κs = search needs
 
 returns-2 : tie.Need-returns-2
 returns-2 c =
     let a = c .before .before .before .before .before in
-    at-length (now (a .args .header)) (a .pre) (sym (c .before .before .before .number .ensures) ∙ c .before .before .if1 .left) (rw (c .before .number2 .ensures) at (c .if2 .taken))
+    at-length (now (a .args .header)) (a .pre) (sym (c .before .before .before .one .ensures) ∙ c .before .before .if1 .left) (rw (c .before .four .ensures) at (c .if2 .taken))
 
 setting-in-requires : tie.Need-setting-in-requires
 setting-in-requires c κs = search needs
@@ -114,7 +114,7 @@ returns-4 : tie.Need-returns-4
 returns-4 c =
     let t = c .before .before in
     let s = t .before .before .before in
-    let n = s .before .before .number2 .ensures in
+    let n = s .before .before .four .ensures in
     at-ragged _ (begun (s .before)) (rw (s .setting-in .ensures) at (accepted t)) (rw (n, c .before .pair-bytes .ensures, s .setting-in .ensures) at (c .if3 .taken))
 
 pair-bytes-requires-2 : tie.Need-pair-bytes-requires-2
@@ -128,7 +128,7 @@ returns-5 c =
     let w = c .before .before in
     let t = w .before .before in
     let s = t .before .before .before in
-    let n = s .before .before .number2 .ensures in
+    let n = s .before .before .four .ensures in
     at-full _ (begun (s .before)) (rw (s .setting-in .ensures) at (accepted t)) (rw (n, w .before .pair-bytes .ensures, s .setting-in .ensures) at (w .if3 .left))
     (rw (n, c .before .pair-bytes2 .ensures, s .setting-in .ensures) at (c .if4 .taken))
 
@@ -137,7 +137,7 @@ returns-6 c =
     let w = c .before .before in
     let t = w .before .before in
     let s = t .before .before .before in
-    let n = s .before .before .number2 .ensures in
+    let n = s .before .before .four .ensures in
     at-end _ (begun (s .before)) (rw (s .setting-in .ensures) at (accepted t)) (rw (n, w .before .pair-bytes .ensures, s .setting-in .ensures) at (w .if3 .left))
     (rw (n, c .before .pair-bytes2 .ensures, s .setting-in .ensures) at (c .if4 .left))
 
@@ -145,9 +145,9 @@ pub check-header-spec : {M : Type 1} → statement M
 check-header-spec =
     tie.close
     (tie.spec
-    number-requires
+    one-requires
     returns
-    number-requires-2
+    four-requires
     returns-2
     setting-in-requires
     check-requires

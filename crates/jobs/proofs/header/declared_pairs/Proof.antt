@@ -11,25 +11,25 @@ use Rattle.jobs.proofs.header.declared_pairs.Tie as tie
 header : (c : tie.Start) → Header (now (c .args .header))
 header c = header-passed (now (c .args .header)) (c .pre .1)
 
-number-requires : tie.Need-number-requires
-number-requires c κs = search needs
+four-requires : tie.Need-four-requires
+four-requires c κs = search needs
 
 sub-result : tie.Need-sub-result
-sub-result c = rw (c .number .ensures) (header (c .before .before) .counted)
+sub-result c = rw (c .four .ensures) (header (c .before .before) .counted)
 
-number-requires-2 : tie.Need-number-requires-2
-number-requires-2 c κs = search needs
+one-requires : tie.Need-one-requires
+one-requires c κs = search needs
 
 pair-bytes-requires : tie.Need-pair-bytes-requires
-pair-bytes-requires c κs = rw (c .number2 .ensures) (bounds _ (header (c .before .before .before) .accepted) .range .choice .k-high)
+pair-bytes-requires c κs = rw (c .one .ensures) (bounds _ (header (c .before .before .before) .accepted) .range .choice .k-high)
 
 div-result : tie.Need-div-result
-div-result c = let low = bounds _ (header (c .before .before .before .before) .accepted) .range .choice .k-low in omega (arith, low, c .pair-bytes .ensures, c .before .number2 .ensures)
+div-result c = let low = bounds _ (header (c .before .before .before .before) .accepted) .range .choice .k-low in omega (arith, low, c .pair-bytes .ensures, c .before .one .ensures)
 
 returns : tie.Need-returns
-returns c = rw (c .pair-bytes .ensures, c .before .before .number .ensures, c .before .number2 .ensures)
+returns c = rw (c .pair-bytes .ensures, c .before .before .four .ensures, c .before .one .ensures)
 
 pub declared-pairs-spec : {M : Type 1} → statement M
 declared-pairs-spec =
     tie.close
-    (tie.spec number-requires sub-result number-requires-2 pair-bytes-requires div-result returns)
+    (tie.spec four-requires sub-result one-requires pair-bytes-requires div-result returns)

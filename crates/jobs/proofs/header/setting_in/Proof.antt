@@ -3,22 +3,22 @@ use borrow.Author.Needs.{needs}
 use Rattle.jobs.proofs.header.setting_in.Statement.{statement}
 use Rattle.jobs.proofs.header.setting_in.Tie as tie
 
-number-requires : tie.Need-number-requires
-number-requires c κs = search needs
+four-requires : tie.Need-four-requires
+four-requires c κs = search needs
 
-number-requires-2 : tie.Need-number-requires-2
-number-requires-2 c κs = search needs
+one-requires : tie.Need-one-requires
+one-requires c κs = search needs
 
-number-requires-3 : tie.Need-number-requires-3
-number-requires-3 c κs = search needs
+one-requires-2 : tie.Need-one-requires-2
+one-requires-2 c κs = search needs
 
-number-requires-4 : tie.Need-number-requires-4
-number-requires-4 c κs = search needs
+four-requires-2 : tie.Need-four-requires-2
+four-requires-2 c κs = search needs
 
 returns : tie.Need-returns
-returns c = rw (c .before .before .before .number .ensures, c .before .before .number2 .ensures, c .before .number3 .ensures, c .number4 .ensures)
+returns c = rw (c .before .before .before .four .ensures, c .before .before .one .ensures, c .before .one2 .ensures, c .four2 .ensures)
 
 pub setting-in-spec : {M : Type 1} → statement M
 setting-in-spec =
     tie.close
-    (tie.spec number-requires number-requires-2 number-requires-3 number-requires-4 returns)
+    (tie.spec four-requires one-requires one-requires-2 four-requires-2 returns)
