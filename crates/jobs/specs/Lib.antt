@@ -16,3 +16,4 @@ pub mod TextLaws
 pub mod LineLaws
 pub mod FinishLaws
 pub mod JobLaws
+pub mod Examples
