@@ -5,14 +5,13 @@
 --     coefficients-join, pairs-in-join      the coefficients of joined bytes, and the pairs of joined coefficients, where the first are whole
 --     sum-join, sum-none                    bytes one after the other are added up as joined bytes are; less than a pair adds nothing
 --     sum-total, sum-coherent               how many pairs were added; a coherent record stays so
-use Prim.Native.Nat.{ℕ, _+_, _-_, _*_, _/_, _%_, _≤_, _<_}
-use mathlib.Core.Path.{_≡_, refl, sym, ap, _∙_}
-use mathlib.Core.List.{List, [], _++_}
+use Prim.Native.Nat.{ℕ, _+_, _-_, _*_, _/_, _≤_, _<_}
+use mathlib.Core.Path.{_≡_, sym, ap, _∙_}
+use mathlib.Core.List.{List, _++_}
 use native.Mathlib.Nat.{add-comm, add-mul-div-right, mul-div-cancel, mul-assoc, div-div-eq-div-mul, div-eq-of-lt}
 use native.Mathlib.Decide.{decLt}
 use native.Mathlib.Omega.{arith}
 use lib.ListN.{length, length-append, List·getD-append}
-use Rattle.polynomials.specs.Indices.{upto}
 use Rattle.polynomials.specs.IndexLaws.{upto-same, upto-join}
 use Rattle.polynomials.specs.Lists.{coefficient, Below, Pairs}
 use Rattle.polynomials.specs.ListLaws.{coefficient-past, coefficient-after}

@@ -3,9 +3,9 @@
 --     feeding, fed-pairs      taken apart they are lists that feed takes, and the pairs that they hold are those in the bytes
 --     fed-block               so feed refuses nothing, and adds up what is in the bytes
 use Prim.Native.Nat.{ℕ, suc, _+_, _-_, _*_, _/_, _%_, _≤_, _<_, min}
-use mathlib.Core.Path.{_≡_, refl, sym, ap, _∙_}
+use mathlib.Core.Path.{_≡_, sym, ap, _∙_}
 use mathlib.Core.List.{List, [], _++_}
-use native.Mathlib.Nat.{zero-mod, add-mul, le-of-mul-le-mul-right, div-mul-le-self, le-trans, mul-pos, mul-comm, mul-assoc, suc-mul, mul-le-mul-right, mul-div-cancel, mul-mod-left, mod-lt, div-add-mod', div-lt-iff-lt-mul, div-div-eq-div-mul}
+use native.Mathlib.Nat.{zero-mod, add-mul, le-of-mul-le-mul-right, div-mul-le-self, le-trans, mul-pos, mul-comm, mul-assoc, suc-mul, mul-le-mul-right, mul-div-cancel, mul-mod-left, mod-lt, div-add-mod', div-lt-iff-lt-mul}
 use native.Mathlib.Decide.{decLt}
 use native.Mathlib.Omega.{arith}
 use lib.ListN.{length, take, drop, length-drop, take-append-drop}
@@ -29,7 +29,7 @@ use Rattle.jobs.specs.States.{sumAfter}
 use Rattle.jobs.specs.Apart.{blockSize, Parting, TakenApart}
 use Rattle.jobs.specs.Adding.{Feedable, Block}
 use Rattle.jobs.specs.ByteLaws.{length-coefficientsIn}
-use Rattle.jobs.specs.AddingLaws.{below-parts, share, pairs-even, coefficients-join, sum-join, sum-none, sum-total, sum-coherent}
+use Rattle.jobs.specs.AddingLaws.{below-parts, pairs-even, coefficients-join, sum-join, sum-none, sum-total, sum-coherent}
 
 -- a place inside a block inside all of them
 inside : (k m r j : ℕ) → r < m → j < k → r * k + j < m * k

@@ -19,26 +19,25 @@ use native.Mathlib.Omega.{arith}
 use lib.Dec.{ltb, eqb, lit<, lit≤}
 use lib.ListN.{length, take, drop}
 use lib.Seq.{take-at}
-use borrow.Author.Tests.{ne-eqb, lt-ltb, le-ltb, ltb-false, le-leb}
+use borrow.Author.Tests.{ne-eqb, lt-ltb, le-ltb, le-leb}
 use Rattle.polynomials.specs.Indices.{upto}
 use Rattle.polynomials.specs.IndexLaws.{length-upto, upto-most}
 use Rattle.polynomials.specs.Lists.{Below}
 use Rattle.polynomials.specs.Blocks.{blocks}
 use Rattle.polynomials.specs.BlockLaws.{blocks-few}
-use Rattle.packed.specs.Limits.{mostPairs, residuePlaces}
+use Rattle.packed.specs.Limits.{residuePlaces}
 use Rattle.packed.specs.Answers.{answered, fine}
 use Rattle.packed.specs.AnswerLaws.{never}
 use Rattle.packed.specs.Settings.{places, InRange}
 use Rattle.packed.specs.Bounds.{bounds}
-use Rattle.packed.specs.Running.{recordCause, closeChecks, closingAt, closedSays, Closes}
-use Rattle.packed.specs.RunningLaws.{coherent-is}
+use Rattle.packed.specs.Running.{closeChecks, closingAt, closedSays, Closes}
 use Rattle.packed.specs.RunningChecks.{close-pass}
 use Rattle.packed.specs.declared.refusals.Refusal.{Refusal}
 use Rattle.packed.specs.declared.running.Record.{Record}
 use Rattle.packed.specs.declared.running.Closed.{Closed}
 use Rattle.packed.specs.declared.running.Closed.the-variants as inClosed
 use Rattle.jobs.specs.Lines.{sumsLine, refusedLine}
-use Rattle.jobs.specs.States.{refusalCause, addingCause, settledCause, stateCause, addingLine, lineAt, lineOf}
+use Rattle.jobs.specs.States.{refusalCause, settledCause, stateCause, addingLine, lineAt, lineOf}
 use Rattle.jobs.specs.Adding.{Adding}
 use Rattle.jobs.specs.Texts.{longestLine, Short}
 use Rattle.jobs.specs.CoherentLaws.{adding-waits}

@@ -5,7 +5,7 @@
 --     Call, Calls st calls z       calls of take, one after the other, from the state st to z; pieces, all that they were given, joined
 --     state-alone                  from a start the state depends on the joined bytes alone, however they are cut
 --     finish-line                  and finishing gives the job's line
-use Prim.Native.Nat.{ℕ, _+_, _-_, _*_, _/_, _%_, _≤_, _<_}
+use Prim.Native.Nat.{ℕ, _+_, _-_, _*_, _/_, _≤_, _<_}
 use mathlib.Core.Path.{_≡_, refl, sym, ap, _∙_}
 use mathlib.Core.Bool.{Bool, true, false}
 use mathlib.Core.List.{List, [], _∷_, _++_, append-nil, append-assoc}

@@ -1,7 +1,7 @@
 -- Laws of taking bytes while pairs are added up. Assumes nothing.
 --     bad-after, bad-first         the first bad coefficient of joined lists: in the second, where the first has none; in the first, where it has one
 --     Fits s u pairs bs            bytes that no check refuses: no more than are to come, with all coefficients below p
---     checks-fit                   no check refuses exactly such bytes
+--     checks-fit                   what no check refuses fits
 --     pairs-step                   whole pairs that fit are added up, and then the other bytes are taken
 --     front-feedable, front-sum    of bytes that fit the whole pairs can be fed, and that adds up all
 --     held-fits, adding-next       after bytes that fit, what is held fits too, and there is a coherent record with room for the pairs to come
@@ -12,19 +12,18 @@ use Prim.Native.Nat.{ℕ, _+_, _-_, _*_, _/_, _%_, _≤_, _<_}
 use mathlib.Core.Path.{_≡_, refl, sym, ap, _∙_}
 use mathlib.Core.Bool.{Bool, true, false, true≢false}
 use mathlib.Core.List.{List, [], _++_, append-assoc}
-use native.Mathlib.Nat.{add-comm, mul-comm, mul-add, add-mul, add-assoc, mul-assoc, mul-div-cancel, mul-mod-left, div-self, one-mul, le-of-mul-le-mul-right, div-add-mod', mod-lt}
+use native.Mathlib.Nat.{mul-comm, mul-add, add-mul, mul-div-cancel, mul-mod-left, div-self, one-mul, le-of-mul-le-mul-right, div-add-mod', mod-lt}
 use native.Mathlib.Decide.{decLt}
 use native.Mathlib.Omega.{arith}
 use lib.Dec.{ltb}
 use lib.ListN.{length, take, drop, length-append, length-take, length-drop, take-append-drop, List·getD-append}
 use lib.Seq.{getD-take, take-all, drop-length, length-take-le, take-append-le, take-append-add, drop-append-add}
-use borrow.Author.Tests.{lt-ltb, le-ltb, ltb-true, ltb-false, lt-leb}
+use borrow.Author.Tests.{lt-ltb, le-ltb, ltb-false, lt-leb}
 use Rattle.polynomials.specs.Indices.{First}
 use Rattle.polynomials.specs.IndexLaws.{upto-at, first-is, first-only}
 use Rattle.polynomials.specs.Lists.{coefficient, Below}
 use Rattle.polynomials.specs.ListLaws.{coefficient-after}
 use Rattle.layout.specs.Numbers.{numberAt, numberAt-same}
-use Rattle.packed.specs.Limits.{mostPairs}
 use Rattle.packed.specs.Answers.{answered, refused, Verdict, fine, refuse, _andThen_}
 use Rattle.packed.specs.AnswerLaws.{never, passed, passed-last}
 use Rattle.packed.specs.Coefficients.{tooLarge, firstBad, coefficientCheck, coefficient-check}
@@ -117,12 +116,6 @@ module _ (s : Setting) (u : Sum) (pairs : ℕ) (a : Adding s u pairs) where
       let good : coefficientCheck (s .p) cs ≡ fine = rw (both .0) in
       let all : take (room s u pairs) bs ≡ bs = take-all (room s u pairs) bs few in
       record { few = few; below = rw all at (coefficient-check (s .p) cs p-some .0 good) }
-
-  pub fit-checks : (bs : List ℕ) → Fits s u pairs bs → bodyChecks s u pairs bs ≡ fine
-  unfolding bodyChecks
-  fit-checks bs f =
-      let good : coefficientCheck (s .p) (coefficientsIn bs) ≡ fine = coefficient-check (s .p) (coefficientsIn bs) p-some .1 (f .below) in
-      rw (take-all (room s u pairs) bs (f .few), passed-last (ltb (firstBad (s .p) (coefficientsIn bs)) (length (coefficientsIn bs))) 8 (firstBad (s .p) (coefficientsIn bs)) good, le-ltb (room s u pairs) (length bs) (f .few))
 
   -- ---- whole pairs, and then others
 

@@ -2,7 +2,7 @@
 ghost use mathlib.Core.Path.{_≡_};
 ghost use mathlib.Core.Bool.{false};
 ghost use mathlib.Core.List.{_++_};
-ghost use Prim.Native.Nat.{_+_, _*_, _^_, _≤_};
+ghost use Prim.Native.Nat.{_+_, _-_, _*_, _^_, _≤_};
 ghost use lib.ListN.{length};
 ghost use Rattle.packed.specs.Limits.{mostPairs};
 ghost use Rattle.packed.specs.Running.{recordOf};
@@ -71,7 +71,7 @@ pub fn add_bytes(running: Record, pairs: u64, bytes: &[u8]) -> State
     State {
         stage: Stage::Pairs,
         held: joined(&bytes[whole..], &bytes[..0]),
-        size: bytes.len() - whole,
+        size: rest_size(bytes.len(), whole),
         pairs: pairs,
         running: feed_bytes(running, &bytes[..whole]),
     }
@@ -140,4 +140,12 @@ fn whole_bytes(k: u64, bytes: usize) -> usize
 {
     let pair = pair_bytes(k) as usize;
     bytes / pair * pair
+}
+
+// How many bytes are left after those: less than a pair.
+fn rest_size(bytes: usize, whole: usize) -> usize
+    requires { ⌜ whole ≤ bytes ⌝ }
+    ensures { λ r. ⌜ r ≡ bytes - whole ⌝ }
+{
+    bytes - whole
 }

@@ -1,7 +1,7 @@
 -- `add_bytes` meets its contract. Assumes nothing.
 use Prim.Native.Nat.{ℕ, _+_, _-_, _*_, _/_, _≤_, _<_, min}
 use mathlib.Core.Path.{_≡_, sym, ap, _∙_}
-use mathlib.Core.List.{List, [], _++_, append-nil}
+use mathlib.Core.List.{List, append-nil}
 use native.Mathlib.Nat.{div-mul-le-self}
 use native.Mathlib.Decide.{decLt}
 use native.Mathlib.Omega.{arith}
@@ -14,7 +14,6 @@ use borrow.Author.Needs.{needs}
 use borrow.Author.Tests.{lt-ltb, le-ltb}
 use Rattle.polynomials.specs.Indices.{upto}
 use Rattle.polynomials.specs.Lists.{coefficient}
-use Rattle.packed.specs.Limits.{mostPairs}
 use Rattle.packed.specs.Answers.{fine}
 use Rattle.packed.specs.Coefficients.{firstBad}
 use Rattle.packed.specs.Bounds.{bounds}
@@ -23,11 +22,10 @@ use Rattle.packed.specs.declared.setting.Setting.{Setting}
 use Rattle.packed.specs.declared.running.Sum.{Sum}
 use Rattle.packed.specs.declared.running.Record.{Record}
 use Rattle.jobs.specs.Jobs.{coefficientsIn}
-use Rattle.jobs.specs.States.{heldBytes, room, bodyChecks, wholeBytes, sumAfter, settled, adding, pairsAfter}
-use Rattle.jobs.specs.Adding.{Adding, Feedable}
+use Rattle.jobs.specs.States.{heldBytes, room, bodyChecks, wholeBytes, sumAfter, settled, pairsAfter}
+use Rattle.jobs.specs.Adding.{Adding}
 use Rattle.jobs.specs.ByteLaws.{length-coefficientsIn}
 use Rattle.jobs.specs.TakingLaws.{Fits, checks-fit, back-short, front-feedable, front-sum}
-use Rattle.jobs.specs.declared.state.State.{State}
 use Rattle.jobs.specs.declared.state.Stage.the-variants as inStage
 use Rattle.jobs.proofs.adding.add_bytes.Statement.{statement}
 use Rattle.jobs.proofs.adding.add_bytes.Tie as tie
@@ -159,23 +157,23 @@ joined-requires c κs =
     rw (rest-is (c .before .before .whole-bytes .result) (now (c .before .before .before .before .before .before .before .before .before .before .before .before .before .args .bytes)), c .before .before .whole-bytes .ensures)
     (omega (arith, back-short (c .before .before .before .before .before .before .before .before .before .before .before .before .before .args .running .setting) (c .before .before .before .before .before .before .before .before .before .before .before .before .before .args .running .sum) (c .before .before .before .before .before .before .before .before .before .before .before .before .before .args .pairs) (c .before .before .before .before .before .before .before .before .before .before .before .before .before .pre) (now (c .before .before .before .before .before .before .before .before .before .before .before .before .before .args .bytes)) (fitting (c .before .before .before)), k-high (c .before .before .before .before .before .before .before .before .before .before .before .before .before .args .running .setting) (c .before .before .before .before .before .before .before .before .before .before .before .before .before .args .running .sum) (c .before .before .before .before .before .before .before .before .before .before .before .before .before .args .pairs) (c .before .before .before .before .before .before .before .before .before .before .before .before .before .pre) (now (c .before .before .before .before .before .before .before .before .before .before .before .before .before .args .bytes))))
 
-sub-t26 : tie.Need-sub-t26
-sub-t26 c = inside (c .before .before .before)
+rest-size-requires : tie.Need-rest-size-requires
+rest-size-requires c κs = inside (c .before .before .before)
 
 slice-aggregate-feed-bytes : tie.Need-slice-aggregate-feed-bytes
-slice-aggregate-feed-bytes c = sym (length-take-le (c .before .before .before .before .whole-bytes .result) (now (c .before .before .before .before .before .before .before .before .before .before .before .before .before .before .before .args .bytes)) (inside (c .before .before .before .before)))
+slice-aggregate-feed-bytes c = sym (length-take-le (c .before .before .before .before .before .whole-bytes .result) (now (c .before .before .before .before .before .before .before .before .before .before .before .before .before .before .before .before .args .bytes)) (inside (c .before .before .before .before .before)))
 
 feed-bytes-requires : tie.Need-feed-bytes-requires
-feed-bytes-requires c κs = rw (c .before .before .before .before .whole-bytes .ensures) (front-feedable (c .before .before .before .before .before .before .before .before .before .before .before .before .before .before .before .args .running .setting) (c .before .before .before .before .before .before .before .before .before .before .before .before .before .before .before .args .running .sum) (c .before .before .before .before .before .before .before .before .before .before .before .before .before .before .before .args .pairs) (c .before .before .before .before .before .before .before .before .before .before .before .before .before .before .before .pre) (now (c .before .before .before .before .before .before .before .before .before .before .before .before .before .before .before .args .bytes)) (fitting (c .before .before .before .before .before)))
+feed-bytes-requires c κs = rw (c .before .before .before .before .before .whole-bytes .ensures) (front-feedable (c .before .before .before .before .before .before .before .before .before .before .before .before .before .before .before .before .args .running .setting) (c .before .before .before .before .before .before .before .before .before .before .before .before .before .before .before .before .args .running .sum) (c .before .before .before .before .before .before .before .before .before .before .before .before .before .before .before .before .args .pairs) (c .before .before .before .before .before .before .before .before .before .before .before .before .before .before .before .before .pre) (now (c .before .before .before .before .before .before .before .before .before .before .before .before .before .before .before .before .args .bytes)) (fitting (c .before .before .before .before .before .before)))
 
 returns-3 : tie.Need-returns-3
 returns-3 c =
-    let bs = now (c .before .before .before .before .before .before .before .before .before .before .before .before .before .before .before .before .args .bytes) in
-    let whole = c .before .before .before .before .before .whole-bytes .ensures in
-    added (c .before .before .before .before .before .before .before .before .before .before .before .before .before .before .before .before .args .running .setting) (c .before .before .before .before .before .before .before .before .before .before .before .before .before .before .before .before .args .running .sum) (c .before .before .before .before .before .before .before .before .before .before .before .before .before .before .before .before .args .pairs) (c .before .before .before .before .before .before .before .before .before .before .before .before .before .before .before .before .pre) (now (c .before .before .before .before .before .before .before .before .before .before .before .before .before .before .before .before .args .bytes)) (c .before .before .before .before .before .before .before .before .before .before .least .result) (c .before .before .before .before .before .before .before .before .first-bad .result) (ends-at (c .before .before .before .before .before .before .before .before)) (c .before .before .before .before .before .before .before .before .first-bad .ensures) (c .before .before .before .before .before .before .before .if1 .left) (few-bytes (c .before .before .before .before .before .before))
-    (c .before .before .joined .result) _ (c .feed-bytes .result)
-    (rw (rest-is (c .before .before .before .before .before .whole-bytes .result) bs, append-nil, whole) at (c .before .before .joined .ensures))
-    (rw whole (sym (length-drop _ bs)))
+    let bs = now (c .before .before .before .before .before .before .before .before .before .before .before .before .before .before .before .before .before .args .bytes) in
+    let whole = c .before .before .before .before .before .before .whole-bytes .ensures in
+    added (c .before .before .before .before .before .before .before .before .before .before .before .before .before .before .before .before .before .args .running .setting) (c .before .before .before .before .before .before .before .before .before .before .before .before .before .before .before .before .before .args .running .sum) (c .before .before .before .before .before .before .before .before .before .before .before .before .before .before .before .before .before .args .pairs) (c .before .before .before .before .before .before .before .before .before .before .before .before .before .before .before .before .before .pre) (now (c .before .before .before .before .before .before .before .before .before .before .before .before .before .before .before .before .before .args .bytes)) (c .before .before .before .before .before .before .before .before .before .before .before .least .result) (c .before .before .before .before .before .before .before .before .before .first-bad .result) (ends-at (c .before .before .before .before .before .before .before .before .before)) (c .before .before .before .before .before .before .before .before .before .first-bad .ensures) (c .before .before .before .before .before .before .before .before .if1 .left) (few-bytes (c .before .before .before .before .before .before .before))
+    (c .before .before .before .joined .result) _ (c .feed-bytes .result)
+    (rw (rest-is (c .before .before .before .before .before .before .whole-bytes .result) bs, append-nil, whole) at (c .before .before .before .joined .ensures))
+    (c .before .before .rest-size .ensures ∙ rw whole (sym (length-drop _ bs)))
     (rw whole at (c .feed-bytes .ensures))
 
 pub add-bytes-spec : {M : Type 1} → statement M
@@ -199,7 +197,7 @@ add-bytes-spec =
     part-joined-end
     slice-aggregate-joined
     joined-requires
-    sub-t26
+    rest-size-requires
     slice-aggregate-feed-bytes
     feed-bytes-requires
     returns-3)

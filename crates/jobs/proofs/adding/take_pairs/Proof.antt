@@ -12,7 +12,7 @@ use Rattle.polynomials.specs.IndexLaws.{length-upto}
 use Rattle.polynomials.specs.Lists.{coefficient}
 use Rattle.packed.specs.Bounds.{bounds}
 use Rattle.jobs.specs.Jobs.{pairBytes}
-use Rattle.jobs.specs.States.{heldBytes, heldIn, pairsAfter, addingCause}
+use Rattle.jobs.specs.States.{heldBytes, heldIn, pairsAfter}
 use Rattle.jobs.specs.Adding.{Adding}
 use Rattle.jobs.specs.CoherentLaws.{Waiting, adding-waits}
 use Rattle.jobs.specs.CompletingLaws.{Completing, held-size, first-size, begun-size, begun-fits, all-taken, complete, begun-back, begun-rest}

@@ -1,5 +1,5 @@
 -- `copy` meets its contract: at every turn r coefficients have been put, and what stands before place j is as it was. Assumes nothing.
-use Prim.Native.Nat.{_+_, _-_, _≤_}
+use Prim.Native.Nat.{_-_, _≤_}
 use mathlib.Core.Path.{_≡_, refl}
 use native.Mathlib.Omega.{arith}
 use lib.ListN.{length, length-set}
