@@ -1,4 +1,5 @@
 // The job program: it reads a job from standard input and writes its line to standard output, and nothing else.
+use jobs::state::LONGEST_LINE;
 use jobs::state::Stage;
 use jobs::state::State;
 use jobs::state::finish;
@@ -61,9 +62,9 @@ fn is_open(state: State) -> bool {
     }
 }
 
-// The longest line has 126 bytes, so finish does not refuse.
+// finish does not refuse a buffer that has room for every line.
 fn write_line(state: State) {
-    let mut line = [0u8; 126];
+    let mut line = [0u8; LONGEST_LINE];
     let Wrote::Count(size) = finish(state, &mut line) else {
         return;
     };

@@ -102,8 +102,8 @@ fn feed_block(running: Record, bytes: &[u8]) -> Record
     let s = running.setting;
     let k = s.k as usize;
     let m = bytes.len() / pair_bytes(s.k) as usize;
-    let mut xs = [0u16; 2048];
-    let mut ys = [0u16; 2048];
+    let mut xs = [0u16; BLOCK];
+    let mut ys = [0u16; BLOCK];
     take_apart(k, m, bytes, &mut xs, &mut ys);
     let fed = feed(running, &xs[..m * k], &ys[..m * k]);
     fed.running

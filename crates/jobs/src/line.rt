@@ -9,6 +9,7 @@ ghost use Rattle.jobs.specs.States.{addingLine, lineOf};
 ghost use Rattle.jobs.specs.Adding.{Adding};
 ghost use Rattle.jobs.specs.Texts.{longestLine, textOf, Extends, Short, Puts};
 use crate::coherent::state_cause;
+use crate::state::LONGEST_LINE;
 use crate::state::Stage;
 use crate::state::State;
 use packed::answers::Wrote;
@@ -20,7 +21,7 @@ use packed::running::close;
 use packed::setting::Setting;
 
 pub struct Line {
-    pub bytes: [u8; 126],
+    pub bytes: [u8; LONGEST_LINE],
     pub size: usize,
 }
 
@@ -103,7 +104,7 @@ fn empty() -> Line
     ensures { λ r. ⌜ r ≡ textOf [] ⌝ }
 {
     Line {
-        bytes: [0u8; 126],
+        bytes: [0u8; LONGEST_LINE],
         size: 0,
     }
 }

@@ -10,6 +10,9 @@ use packed::answers::Wrote;
 use packed::refusals::Refusal;
 use packed::running::Record;
 
+// A buffer of so many bytes has room for every line.
+pub const LONGEST_LINE: usize = 126;
+
 pub enum Stage {
     // The header is not complete.
     Header,
