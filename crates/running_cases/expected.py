@@ -2,91 +2,23 @@
 """What running_cases must write: python3 crates/running_cases/expected.py > crates/running_cases/stdout
 
 Worked out by document 01's words in whole numbers, with no code of the crates. The refusals are those of document 01 in its order, 1 to 6
-from expected/document.py. A record is kept as the numbers that it started from and the list of all pairs since, and no pair is followed into
-it: the residues come from one schoolbook sum of all pairs of the full batches, the word from one of the rest, and closing from one of them
-all. That closing is (residue + field) mod p of the record is asserted. A record that the program puts together by hand, and that feeding
-reaches, is worked out here from its pairs; the edges of the fields come from their formula. The example that the document prints is asserted
-too, and that a largest n is the largest. The inputs are written out again, so a case that the program lacks shows as a difference."""
+from expected/document.py, and the record of expected/records.py, which keeps the list of all pairs and follows none into it. Closing comes
+from one schoolbook sum of all pairs; that it is (residue + field) mod p of the record is asserted. A record that the program puts together by
+hand, and that feeding reaches, is worked out here from its pairs; the edges of the fields come from their formula. The example that the
+document prints is asserted too, and that a largest n is the largest. The inputs are written out again, so a case that the program lacks shows
+as a difference."""
 
 import os
 import sys
 from collections import Counter
-from functools import cached_property
 
 sys.path.insert(0, os.path.join(os.path.dirname(os.path.abspath(__file__)), "..", "..", "expected"))
 from document import ALL, COEFFICIENTS, SEVEN, SHAPES, check, listed, made, words
-
-MOST = 1000000
-RESIDUES = 15
-
-
-def places(k):
-    return range(2 * k - 1)
-
-
-def schoolbook(k, pairs):
-    """Coefficient j is the sum of a_i b_(j-i) over all pairs (a, b); equal pairs are multiplied once."""
-    counts = Counter(pairs).items()
-    return [sum(times * sum(a[i] * b[j - i] for i in range(k) if 0 <= j - i < k) for (a, b), times in counts) for j in places(k)]
-
-
-def packed(t, fields):
-    return sum(x * 2 ** (t * j) for j, x in enumerate(fields))
-
-
-def fields(s, word):
-    p, k, t, n = s
-    return [word // 2 ** (t * j) % 2**t for j in places(k)]
+from records import MOST, Record, bounds, coherent, fields, packed, schoolbook
 
 
 def pairs_of(k, xs, ys):
     return [(tuple(xs[i:i + k]), tuple(ys[i:i + k])) for i in range(0, len(xs), k)]
-
-
-class Record:
-    """A setting, total, word and residues to start from, and the pairs since."""
-
-    def __init__(self, s, total=0, word=0, residues=(), pairs=()):
-        self.s, self.start, self.pairs = s, (total, word, list(residues) + [0] * (RESIDUES - len(residues))), list(pairs)
-
-    @cached_property
-    def sum(self):
-        total, word, residues = self.start
-        if not self.pairs:
-            return self.start
-        p, k, t, n = self.s
-        # where the full batches end among the pairs, or before them where none of these fills one
-        end = (total + len(self.pairs)) // n * n - total
-        if end <= 0:
-            return total + len(self.pairs), word + packed(t, schoolbook(k, self.pairs)), residues
-        new = [(x + y + z) % p for x, y, z in zip(residues, fields(self.s, word), schoolbook(k, self.pairs[:end]))]
-        return total + len(self.pairs), packed(t, schoolbook(k, self.pairs[end:])), new + residues[len(new):]
-
-    def fed(self, pairs):
-        return Record(self.s, *self.start, self.pairs + pairs)
-
-    def listed(self):
-        total, word, residues = self.sum
-        return [*self.s, "total", total, "word", word, "residues", *residues]
-
-
-def bounds(s, r):
-    """The most that each field of a word of r pairs may be."""
-    p, k, t, n = s
-    return [r * min(j + 1, 2 * k - 1 - j) * (p - 1) ** 2 for j in places(k)]
-
-
-def coherent(record):
-    p, k, t, n = record.s
-    total, word, residues = record.sum
-    return (
-        not check(p, k, t, n)
-        and total <= MOST
-        and all(x < p for x in residues)
-        and not any(residues[2 * k - 1:])
-        and all(x <= most for x, most in zip(fields(record.s, word), bounds(record.s, total % n)))
-        and word < 2 ** ((2 * k - 1) * t)
-    )
 
 
 def feed(record, xs, ys):

@@ -1,4 +1,9 @@
 // The job program: it reads a job from standard input and writes its line to standard output, and nothing else.
+ghost use mathlib.Core.Path.{_≡_};
+ghost use mathlib.Core.List.{_++_};
+ghost use lib.ListN.{length, drop};
+ghost use Rattle.jobs.specs.States.{lineOf};
+ghost use Rattle.jobs.specs.Texts.{longestLine};
 use jobs::state::LONGEST_LINE;
 use jobs::state::Stage;
 use jobs::state::State;
@@ -62,11 +67,19 @@ fn is_open(state: State) -> bool {
     }
 }
 
-// finish does not refuse a buffer that has room for every line.
 fn write_line(state: State) {
     let mut line = [0u8; LONGEST_LINE];
-    let Wrote::Count(size) = finish(state, &mut line) else {
-        return;
-    };
+    let size = put_line(state, &mut line);
     io::write_all(STDOUT_FILENO, &line[..size]);
+}
+
+// The line, and its length. No line is longer than the longest, so finish does not refuse, and there is always a line to write.
+fn put_line(state: State, line: &mut [u8]) -> usize
+    requires { ⌜ length (now line) ≡ longestLine ⌝ }
+    ensures { λ r. ⌜ (r ≡ length (lineOf state)) × (now (line .exit) ≡ lineOf state ++ drop r (now (line .entry))) ⌝ }
+{
+    let Wrote::Count(size) = finish(state, line) else {
+        return 0;
+    };
+    size
 }

@@ -1,0 +1,493 @@
+#!/usr/bin/env python3
+"""What jobs_cases must write: python3 crates/jobs_cases/expected.py > crates/jobs_cases/stdout
+
+The rows are those of the program's standard input, and their lines stand there: they come from an independent program. Each is asserted to be
+what `job` gives, which goes by document 01's words, in whole numbers, from all bytes at once; the large jobs have their lines from it alone,
+from bytes that are made here by the same rule. A state that the program puts together by hand is judged by `sound`, clause by clause, and
+that each case lies on the side that it is here for is asserted; what take makes of a coherent one is worked out from all of its bytes at
+once. The running record is that of expected/records.py. No code of the crates is used. The inputs are written out again, so a case that the
+program lacks shows as a difference."""
+
+import os
+import struct
+import sys
+
+HERE = os.path.dirname(os.path.abspath(__file__))
+sys.path.insert(0, os.path.join(HERE, "..", "..", "expected"))
+from document import ALL, SEVEN, check, words
+from records import MOST, Record, bounds, coherent, fields, packed, places, schoolbook
+
+HEADER = 15
+HELD = 32
+
+
+# ---- lines and bytes
+
+
+def refused(number, place):
+    return words("refused", number, place)
+
+
+def sums_line(s, pairs, sums):
+    p, k, t, n = s
+    return words(s, pairs, -(-pairs // n)) + ": " + words(sums)
+
+
+def number(bs):
+    return int.from_bytes(bs, "big")
+
+
+def setting(header):
+    return number(header[5:9]), header[9], header[10], number(header[11:15])
+
+
+def coefficients(bs):
+    """The whole ones."""
+    return struct.unpack(">%dH" % (len(bs) // 2), bs[: len(bs) // 2 * 2])
+
+
+def pairs_in(k, cs):
+    return [(cs[i : i + k], cs[i + k : i + 2 * k]) for i in range(0, len(cs) - 2 * k + 1, 2 * k)]
+
+
+def first_bad(p, cs):
+    """The index of the first coefficient that is p or more; None where there is none."""
+    if max(cs, default=0) < p:
+        return None
+    return next(i for i, x in enumerate(cs) if x >= p)
+
+
+# ---- a job
+
+
+def header_checks(header):
+    """17, 1 to 6, 17, 13, or 0."""
+    if len(header) < HEADER or header[4] != 1 or number(header[:4]) < 11:
+        return 17
+    if check(*setting(header)):
+        return check(*setting(header))
+    pairs, rest = divmod(number(header[:4]) - 11, 4 * header[9])
+    if rest:
+        return 17
+    if pairs > MOST:
+        return 13
+    return 0
+
+
+def job(bs):
+    """The line of a job, from all of its bytes."""
+    if header_checks(bs[:HEADER]):
+        return refused(header_checks(bs[:HEADER]), 0)
+    p, k, t, n = setting(bs)
+    declared = number(bs[:4]) - 11
+    cs = coefficients(bs[HEADER : HEADER + declared])
+    if first_bad(p, cs) is not None:
+        return refused(8, first_bad(p, cs))
+    if len(bs) != HEADER + declared:
+        return refused(17, 0)
+    return sums_line((p, k, t, n), declared // (4 * k), [x % p for x in schoolbook(k, pairs_in(k, cs))])
+
+
+# ---- states
+
+BLANK = Record((0, 0, 0, 0))
+
+
+class State:
+    """A stage, the held bytes with zeros after them, how many of them count, the declared pairs, and a record."""
+
+    def __init__(self, stage, held=(), size=None, pairs=0, record=BLANK):
+        self.stage, self.size, self.pairs, self.record = stage, len(held) if size is None else size, pairs, record
+        self.held = list(held) + [0] * (HELD - len(held))
+
+    def listed(self):
+        return [self.stage, "size", self.size, "held", self.held, "pairs", self.pairs, "record", self.record.listed()]
+
+    def shown(self):
+        return " ".join(words(x) for x in self.listed())
+
+
+def settled(number, place):
+    return State(refused(number, place))
+
+
+def sound(state):
+    """Whether it is coherent."""
+    if any(state.held[state.size :]):
+        return False
+    if state.stage == "pairs":
+        if not coherent(state.record):
+            return False
+        (p, k, t, n), total = state.record.s, state.record.sum[0]
+        return (
+            total <= state.pairs <= MOST
+            and state.size < 4 * k
+            and state.size <= 4 * k * (state.pairs - total)
+            and first_bad(p, coefficients(bytes(state.held[: state.size]))) is None
+        )
+    if state.pairs or any(state.record.s) or state.record.sum[:2] != (0, 0) or any(state.record.sum[2]):
+        return False
+    if state.stage == "header":
+        return state.size < HEADER
+    cause, place = [int(x) for x in state.stage.split()[1:]]
+    if cause == 8:
+        return state.size == 0 and place < 2 * 8 * MOST
+    return state.size == 0 and place == 0 and cause in (1, 2, 3, 4, 5, 6, 13, 17)
+
+
+def begun(bs):
+    """The state after the first bytes of a job."""
+    if len(bs) < HEADER:
+        return State("header", bs)
+    if header_checks(bs[:HEADER]):
+        return settled(header_checks(bs[:HEADER]), 0)
+    return added(Record(setting(bs)), (number(bs[:4]) - 11) // (4 * bs[9]), bs[HEADER:])
+
+
+def added(record, pairs, bs):
+    """A record, and the bytes of pairs since."""
+    (p, k, t, n), total = record.s, record.sum[0]
+    room = 4 * k * (pairs - total)
+    bad = first_bad(p, coefficients(bs[:room]))
+    if bad is not None:
+        return settled(8, 2 * k * total + bad)
+    if len(bs) > room:
+        return settled(17, 0)
+    whole = pairs_in(k, coefficients(bs))
+    return State("pairs", bs[4 * k * len(whole) :], None, pairs, record.fed(whole))
+
+
+def take(state, piece):
+    if not sound(state):
+        return state
+    all_held = bytes(state.held[: state.size]) + bytes(piece)
+    if state.stage == "header":
+        return begun(all_held)
+    if state.stage == "pairs":
+        return added(state.record, state.pairs, all_held)
+    return state
+
+
+def finish(state):
+    if not sound(state):
+        return refused(12, 0)
+    if state.stage == "header":
+        return refused(17, 0)
+    if state.stage != "pairs":
+        return state.stage
+    s, (total, word, residues) = state.record.s, state.record.sum
+    if total < state.pairs:
+        return refused(17, 0)
+    return sums_line(s, state.pairs, [(x + y) % s[0] for x, y in zip(residues, fields(s, word))])
+
+
+def show_taken(state, piece, side):
+    """The side is whether the state is here as a coherent one."""
+    assert sound(state) == side, state.shown()
+    print(state.shown())
+    print("finish:", finish(state))
+    after = take(state, piece)
+    print(words("take", piece) + ":", "unchanged" if after.shown() == state.shown() else after.shown())
+    print("finish:", finish(after))
+
+
+# ---- rows
+
+DOCUMENT = bytes.fromhex("000000230100000003020500000002" + "0001000200020002" * 3)
+assert job(DOCUMENT) == "3 2 5 2 3 2: 0 0 0"
+
+
+def show_row(row):
+    digits, kind, line = [part.strip() for part in row.split("|")]
+    bs = bytes.fromhex(digits)
+    assert job(bs) == line == finish(begun(bs)), row
+    print(line)
+    if len(bs) <= 64:
+        print("cut at every byte: %d alike; " % (len(bs) + 1), end="")
+    print("byte by byte: alike")
+
+
+with open(os.path.join(HERE, "stdin")) as rows:
+    for row in rows:
+        if not row.startswith("#"):
+            show_row(row)
+
+
+# ---- headers
+
+
+def header(length, s):
+    p, k, t, n = s
+    return struct.pack(">IBIBBI", length, 1, p, k, t, n)
+
+
+SMALL = (3, 2, 5, 2)
+for length, s, line in [
+    (0, SMALL, "refused 17 0"),
+    (10, SMALL, "refused 17 0"),
+    (11, SMALL, "3 2 5 2 0 0: 0 0 0"),
+    (12, SMALL, "refused 17 0"),
+    (10, (1, 2, 5, 2), "refused 17 0"),
+    (11, (1, 2, 5, 2), "refused 1 0"),
+    (12, (1, 2, 5, 2), "refused 1 0"),
+    # one byte more in a number
+    (11 + 2**8, SMALL, "refused 17 0"),
+    (11 + 2**16, SMALL, "refused 17 0"),
+    (11 + 2**24, SMALL, "refused 13 0"),
+    (11, (3 + 2**8, 2, 5, 2), "refused 5 0"),
+    (11, (3 + 2**16, 2, 5, 2), "refused 1 0"),
+    (11, (3 + 2**24, 2, 5, 2), "refused 1 0"),
+    (11, (3, 2, 5, 2 + 2**8), "refused 5 0"),
+    (11, (3, 2, 5, 2 + 2**16), "refused 5 0"),
+    (11, (3, 2, 5, 2 + 2**24), "refused 3 0"),
+]:
+    assert job(header(length, s)) == line
+    print(words("header", length, s) + ":", line)
+
+
+# ---- 1,000,000 pairs, and one more
+
+
+def made_bytes(p, count):
+    """By the rule for coefficient i."""
+    return struct.pack(">%dH" % count, *[(i * i % 1000003 + i // 7) % p for i in range(count)])
+
+
+def show_most(s):
+    p, k, t, n = s
+    assert check(*s) == 0
+    print(words("1000000 pairs of", s))
+    head = header(11 + 4 * k * MOST, s)
+    body = made_bytes(p, 2 * k * MOST + 4)
+    size = 4 * k * MOST
+    bad = body[: size - 2] + struct.pack(">H", p) + body[size:]
+    for kind, bs in [
+        ("no pair", b""),
+        ("99 bytes less", body[: size - 99]),
+        ("all", body[:size]),
+        ("a byte less", body[: size - 1]),
+        ("a byte more", body[: size + 1]),
+        ("8 bytes more", body[: size + 8]),
+        ("a byte more, alone", body[:size] + bytes(1)),
+        ("8 bytes more, alone", body[:size] + bytes(8)),
+        ("bad bytes more, alone", body[:size] + b"\xff" * 8),
+        ("bad", bad[:size]),
+        ("bad, a byte less", bad[: size - 1]),
+        ("bad, a byte more", bad[: size + 1]),
+        ("bad, alone", bad[:size]),
+        ("bad, its first byte", bad[: size - 1]),
+    ]:
+        print(kind + ":", job(head + bs))
+
+
+def show_more(s):
+    p, k, t, n = s
+    assert check(*s) == 0
+    print(words("1000001 pairs of", s))
+    size = 4 * k * (MOST + 1)
+    print("no pair:", job(header(11 + size, s)))
+    print("bad:", job(header(11 + size, s) + b"\xff\xff"))
+    print("all:", job(header(11 + size, s) + made_bytes(p, size // 2)))
+    print("a byte less declared:", job(header(10 + size, s)))
+    print("a byte more declared:", job(header(12 + size, s)))
+
+
+def show_uneven(s):
+    p, k, t, n = s
+    assert check(*s) == 0
+    print(words("a pair and a byte of", s))
+    head, body = header(12 + 4 * k, s), made_bytes(p, 2 * k + 1)
+    assert job(header(11 + 4 * k, s) + body[: 4 * k]).startswith(words(s, 1, 1))
+    for kind, bs in [("no pair", b""), ("bad", b"\xff\xff"), ("a pair", body[: 4 * k]), ("all", body[: 4 * k + 1])]:
+        print(kind + ":", job(head + bs))
+
+
+show_most((3, 4, 9, 31))
+show_most((2, 8, 4, 1))
+show_most((65521, 1, 52, 1048576))
+show_more((65521, 1, 52, 1048576))
+show_more((2, 8, 4, 1))
+show_uneven((3, 4, 9, 31))
+show_uneven((65521, 1, 52, 1048576))
+
+# ---- states of an incomplete header
+
+HEAD = DOCUMENT[:HEADER]
+# a record with one field that is not zero
+ONE_FIELD = [Record(tuple(int(i == j) for j in range(4))) for i in range(4)] + [
+    Record((0, 0, 0, 0), 1),
+    Record((0, 0, 0, 0), 0, 1),
+    Record((0, 0, 0, 0), 0, 0, [1]),
+    Record((0, 0, 0, 0), 0, 0, [0] * 14 + [1]),
+]
+LAST = [0] * 31 + [1]
+
+for state, side in [
+    # size
+    (State("header"), True),
+    (State("header", HEAD[:14]), True),
+    (State("header", HEAD), False),
+    (State("header", [], 14), True),
+    (State("header", [], 15), False),
+    (State("header", [1] * 32), False),
+    (State("header", [], ALL), False),
+    # a byte after the held ones
+    (State("header", [1], 0), False),
+    (State("header", [1], 1), True),
+    (State("header", [0, 0, 0, 255], 3), False),
+    (State("header", [0, 0, 0, 255], 4), True),
+    (State("header", HEAD, 14), False),
+    (State("header", LAST, 0), False),
+    (State("header", [0, 0, 0, 35] + LAST[4:], 4), False),
+    (State("header", [0, 0, 0, 35], 4), True),
+    # declared pairs
+    (State("header", [], 0, 1), False),
+    (State("header", [], 0, ALL), False),
+    (State("header", [0, 0, 0, 35], 4, 3), False),
+    # a record
+    *[(State("header", [], 0, 0, record), False) for record in ONE_FIELD],
+    (State("header", [], 0, 0, Record(SMALL)), False),
+]:
+    show_taken(state, [2, 0, 1, 0, 2, 0, 2, 0, 2], side)
+
+# ---- states of a refusal
+
+for state, side in [
+    # numbers and places
+    *[(settled(cause, 0), cause in (1, 2, 3, 4, 5, 6, 8, 13, 17)) for cause in list(range(20)) + [256, ALL]],
+    *[(settled(cause, place), False) for cause, place in [(0, 1), (1, 1), (6, 1), (13, 1), (17, 1), (17, ALL)]],
+    (settled(8, 1), True),
+    (settled(8, 15999999), True),
+    (settled(8, 16000000), False),
+    (settled(8, ALL), False),
+    # bytes
+    (State("refused 17 0", [], 1), False),
+    (State("refused 17 0", [1], 1), False),
+    (State("refused 17 0", [], ALL), False),
+    (State("refused 17 0", [1], 0), False),
+    (State("refused 17 0", LAST, 0), False),
+    # declared pairs
+    (State("refused 13 0", [], 0, 1), False),
+    (State("refused 13 0", [], 0, ALL), False),
+    # a record
+    *[(State("refused 6 0", [], 0, 0, record), False) for record in ONE_FIELD],
+    (State("refused 6 0", [], 0, 0, Record(SMALL)), False),
+]:
+    show_taken(state, [0, 1, 2], side)
+
+# ---- states that add pairs up
+
+PAIR = ((1, 2), (2, 2))
+THIRD = Record(SMALL, pairs=[PAIR] * 3)
+NEARLY = Record(SMALL, pairs=[PAIR] * 999999)
+LARGE = Record((65536, 1, 32, 1), 1)
+LONG = Record((2, 8, 4, 1), 1, 0, [1] * 15)
+LONGEST = Record((2, 8, 4, 1), 999999, 0, [1] * 15)
+ONE_PIECE = [0, 1, 0, 2, 0, 2, 0, 2]
+
+
+def above(s, r, js):
+    """The word with each field at its bound for r pairs, and one more at these places."""
+    return packed(s[2], [x + (j in js) for j, x in enumerate(bounds(s, r))])
+
+
+def adding(held, size, pairs, record, side, piece=ONE_PIECE):
+    show_taken(State("pairs", held, size, pairs, record), piece, side)
+
+
+# settings
+adding([], 0, 3, Record(SMALL), True)
+for s, cause in [
+    ((0, 0, 0, 0), 1),
+    ((1, 2, 5, 2), 1),
+    ((3, 0, 5, 2), 2),
+    ((3, 9, 5, 2), 2),
+    ((3, 2, 5, 0), 3),
+    ((3, 2, 64, 2), 4),
+    ((3, 2, 5, 4), 5),
+    ((3, 2, 22, 2), 6),
+    ((3, 2, ALL, 2), 4),
+]:
+    assert check(*s) == cause
+    adding([], 0, 3, Record(s), False)
+# totals
+adding([], 0, MOST, Record(SMALL, MOST), True)
+adding([], 0, MOST, Record(SMALL, MOST + 1), False)
+adding([], 0, MOST + 1, Record(SMALL, MOST + 1), False)
+adding([], 0, ALL, Record(SMALL, ALL), False)
+# residues and words
+adding([], 0, 3, Record(SMALL, 2, 0, [2, 2, 2]), True)
+adding([], 0, 3, Record(SMALL, 2, 0, [2, 2, 3]), False)
+adding([], 0, 3, Record(SMALL, 2, 0, [0, 0, 0, 1]), False)
+adding([], 0, 3, Record(SMALL, 1, above(SMALL, 1, [])), True)
+adding([], 0, 3, Record(SMALL, 1, above(SMALL, 1, [0])), False)
+adding([], 0, 3, Record(SMALL, 2, above(SMALL, 0, [0])), False)
+adding([], 0, 3, Record(SMALL, 1, 2 ** (5 * len(places(2)))), False)
+# declared pairs
+for pairs, side in [(MOST, True), (MOST + 1, False), (ALL, False), (4, True), (3, True), (2, False), (0, False)]:
+    adding([], 0, pairs, THIRD, side)
+adding([], 0, 0, Record(SMALL), True)
+for pairs, side in [(1000000, True), (999999, True), (999998, False)]:
+    adding([], 0, pairs, NEARLY, side)
+# sizes
+adding([0, 1, 0, 2, 0, 2, 0], 7, 5, THIRD, True)
+adding([0, 1, 0, 2, 0, 2, 0, 2], 8, 5, THIRD, False)
+for size in [8, 32, ALL]:
+    adding([], size, 5, THIRD, False)
+adding([1, 2, 3], 3, 5, LARGE, True)
+adding([1, 2, 3, 4], 4, 5, LARGE, False)
+adding([], 31, 2, LONG, True)
+adding([], 32, 2, LONG, False)
+for size, piece in [(31, [1]), (31, [2]), (31, [1, 0]), (30, [255]), (30, [255, 255, 255]), (0, [0, 2])]:
+    adding([], size, MOST, LONGEST, True, piece)
+# what is to come
+adding([], 0, 3, THIRD, True)
+adding([], 1, 3, THIRD, False)
+adding([0, 1], 2, 3, THIRD, False)
+adding([], 1, 4, THIRD, True)
+adding([0, 1], 2, 4, THIRD, True)
+adding([], 1, 0, Record(SMALL), False)
+# whole coefficients
+for held, side in [
+    ([0, 2], True),
+    ([0, 3], False),
+    ([1, 0], False),
+    ([255, 255], False),
+    ([0, 2, 0, 2], True),
+    ([0, 2, 0, 3], False),
+    ([0, 2, 0, 2, 0, 2], True),
+    ([0, 2, 0, 2, 0, 3], False),
+    ([0, 3, 0, 2, 0, 2, 0], False),
+    # and halves
+    ([1], True),
+    ([0, 2, 255], True),
+    ([0, 2, 0, 2, 0, 2, 3], True),
+]:
+    adding(held, len(held), 5, THIRD, side)
+adding([255, 255], 2, 5, LARGE, True)
+adding([255, 255], 2, 5, Record((65535, 1, 32, 1), 1), False)
+# a byte after the held ones
+for held, size in [([1], 0), ([0, 2, 1], 2), ([0, 2, 0, 2, 0, 2, 0, 1], 7), (LAST, 0), ([0, 2] + LAST[2:], 2)]:
+    adding(held, size, 5, THIRD, False)
+adding(LAST, 31, 2, LONG, False)
+
+# ---- buffers
+
+
+def show_finish(state, lent):
+    line, old = [ord(c) for c in finish(state) + "\n"], [SEVEN] * lent
+    if lent < len(line):
+        print(words("finish into", lent) + ":", words("refused 10 0:", old))
+    else:
+        print(words("finish into", lent) + ":", words("wrote", len(line)) + ":", words(line + old[len(line) :]))
+
+
+for state, line, lents in [
+    (State("header"), "refused 17 0", [0, 12, 13, 14, 126]),
+    (begun(header(19, SMALL) + bytes(ONE_PIECE)), "3 2 5 2 1 1: 2 0 1", [0, 18, 19, 20, 126]),
+    (begun(header(19, SMALL) + bytes([0, 1, 0, 3])), "refused 8 1", [11, 12, 13]),
+    (State("pairs", [], ALL), "refused 12 0", [0, 12, 13, 14]),
+]:
+    assert finish(state) == line
+    for lent in lents:
+        show_finish(state, lent)
