@@ -1,4 +1,5 @@
 -- Bytes taken apart: what the private loops on coefficients ask and promise. Definitions only.
+--     Raised                     bounds that have been raised: none is lower than it was, and the first m of them to m coefficients from index i on
 --     blockSize                  2,048 coefficients of each side at a time
 --     Copying, Copied            k coefficients are there from index i on, and there is room for them from place j on; they have been put there
 --     Parting, TakenApart        m pairs are there, and there is room for them; they have been taken apart
@@ -7,6 +8,10 @@ use mathlib.Core.Path.{_≡_}
 use mathlib.Core.List.{List}
 use lib.ListN.{length}
 use Rattle.polynomials.specs.Lists.{coefficient}
+
+pub record Raised (cs : List ℕ) (i m : ℕ) (old new : List ℕ) : Type 0 where
+  pub kept : (j : ℕ) → coefficient old j ≤ coefficient new j
+  pub above : (j : ℕ) → j < m → coefficient cs (i + j) ≤ coefficient new j
 
 abbrev pub blockSize : ℕ
 blockSize = 2048

@@ -1,14 +1,16 @@
 -- Laws of bytes, as the loops on them use them. Assumes nothing.
 --     length-coefficientsIn, coefficientsIn-at     how many coefficients stand in bytes, and coefficient i: two bytes, the high one first
 --     filled-zeros                                 a list written over zeros is that list with zeros after it
+--     raised-none, raised-more                     a loop that raises bounds: at its start, its turn
+--     Bounded, bounded-none, bounded-more          what is above all bounds is above the first i coefficients; at the start, and after bounds are raised
 --     copied-none, copied-more                     a copying loop: at its start, its turn
 --     apart-none, apart-more                       a loop that takes pairs apart: at its start, its turn
 --     Turn, apart-turn                             what its turn copies is there, with room for it, and the turns are few
-use Prim.Native.Nat.{ℕ, suc, _+_, _*_, _/_, _≤_, _<_}
+use Prim.Native.Nat.{ℕ, suc, _+_, _-_, _*_, _/_, _≤_, _<_}
 use mathlib.Core.Path.{_≡_, refl, sym, _∙_}
 use mathlib.Core.List.{List, []}
-use native.Mathlib.Nat.{add-zero, zero-add, zero-mul, suc-mul, mul-le-mul-right, le-mul-of-pos-right}
-use native.Mathlib.Decide.{decLt}
+use native.Mathlib.Nat.{le-trans, add-zero, zero-add, zero-mul, suc-mul, mul-le-mul-right, le-mul-of-pos-right}
+use native.Mathlib.Decide.{decLt, ℕ-discrete}
 use native.Mathlib.Numerals.{add-one}
 use native.Mathlib.Omega.{arith}
 use lib.ListN.{length, set, replicate, length-replicate}
@@ -18,8 +20,9 @@ use Rattle.polynomials.specs.IndexLaws.{length-upto, upto-at}
 use Rattle.polynomials.specs.Lists.{coefficient}
 use Rattle.polynomials.specs.ListLaws.{lists-agree, coefficient-past, coefficient-zeros, filled-at, filled-after, length-filled}
 use Rattle.layout.specs.Numbers.{numberAt}
+use Rattle.packed.specs.Coefficients.{NoneAbove}
 use Rattle.jobs.specs.Jobs.{coefficientsIn}
-use Rattle.jobs.specs.Apart.{blockSize, Copying, Copied, Parting, TakenApart}
+use Rattle.jobs.specs.Apart.{Raised, blockSize, Copying, Copied, Parting, TakenApart}
 
 pub length-coefficientsIn : (bs : List ℕ) → length (coefficientsIn bs) ≡ length bs / 2
 length-coefficientsIn bs = length-upto (length bs / 2) (λ i. numberAt bs (2 * i) 2)
@@ -43,6 +46,38 @@ filled-zeros xs n h = lists-agree (filled (length xs) f zeros) (upto n f) (size 
     at j (yes l) b = filled-at (length xs) f zeros j l ∙ sym (upto-at n f j b)
     at j (no l) b =
         filled-after (length xs) f zeros j (omega arith) ∙ coefficient-zeros [] n j ∙ sym (upto-at n f j b ∙ coefficient-past xs j (omega arith))
+
+-- ---- bounds
+
+pub raised-none : (cs : List ℕ) (i : ℕ) (old : List ℕ) → Raised cs i 0 old old
+raised-none cs i old = record { kept = λ j. omega arith; above = λ j l. absurd (omega arith) }
+
+pub raised-more : (cs : List ℕ) (i j : ℕ) (old now : List ℕ) (v : ℕ) → j < length now → coefficient now j ≤ v → coefficient cs (i + j) ≤ v → Raised cs i j old now
+    → Raised cs i (j + 1) old (set now j v)
+raised-more cs i j old now v h more here r = record { kept = λ q. le-trans (r .kept q) (higher q (ℕ-discrete q j)); above = λ q l. at q l (decLt q j) }
+  where
+    higher : (q : ℕ) → Dec (q ≡ j) → coefficient now q ≤ coefficient (set now j v) q
+    higher q (yes e) = rw (e, getD-set-same now j v 0 h) more
+    higher q (no n) = rw (getD-set-other now j q v 0 n) (omega arith)
+
+    at : (q : ℕ) → q < j + 1 → Dec (q < j) → coefficient cs (i + q) ≤ coefficient (set now j v) q
+    at q l (yes b) = le-trans (r .above q b) (higher q (ℕ-discrete q j))
+    at q l (no b) = let last : q ≡ j = omega arith in rw (last, getD-set-same now j v 0 h) here
+
+abbrev pub Bounded : List ℕ → ℕ → List ℕ → Type 0
+Bounded cs i bounds = (v : ℕ) → NoneAbove v bounds → (j : ℕ) → j < i → coefficient cs j ≤ v
+
+pub bounded-none : (cs bounds : List ℕ) → Bounded cs 0 bounds
+bounded-none cs bounds v n j l = absurd (omega arith)
+
+pub bounded-more : (cs : List ℕ) (i m : ℕ) (old new : List ℕ) → Bounded cs i old → Raised cs i m old new → Bounded cs (i + m) new
+bounded-more cs i m old new b r v n j l = go (decLt j i)
+  where
+    go : Dec (j < i) → coefficient cs j ≤ v
+    go (yes h) = b v (record { each = λ q. le-trans (r .kept q) (n .each q) }) j h
+    go (no h) =
+        let there : i + (j - i) ≡ j = omega arith in
+        rw there at (le-trans (r .above (j - i) (omega arith)) (n .each (j - i)))
 
 -- ---- copies
 

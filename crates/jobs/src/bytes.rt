@@ -6,10 +6,11 @@ ghost use lib.ListN.{length};
 ghost use Rattle.polynomials.specs.Indices.{upto};
 ghost use Rattle.polynomials.specs.Lists.{coefficient};
 ghost use Rattle.layout.specs.Numbers.{numberAt};
-ghost use Rattle.packed.specs.Coefficients.{firstBad};
+ghost use Rattle.packed.specs.Coefficients.{firstBad, NoneAbove};
 ghost use Rattle.jobs.specs.Jobs.{coefficientsIn};
 ghost use Rattle.jobs.specs.States.{heldBytes};
-ghost use Rattle.jobs.specs.Apart.{blockSize, Copying, Copied, Parting, TakenApart};
+ghost use Rattle.jobs.specs.Apart.{Raised, blockSize, Copying, Copied, Parting, TakenApart};
+use crate::state::HELD;
 
 // How many coefficients of each side are taken apart at a time: 256 pairs of the longest polynomials, and more of shorter ones.
 pub const BLOCK: usize = 2048;
@@ -59,8 +60,68 @@ fn coefficient_at(bytes: &[u8], i: usize) -> u16
     (wide(bytes[2 * i]) * 256 + wide(bytes[2 * i + 1])) as u16
 }
 
-// The index of the first coefficient that is p or more, in input order, and their number where there is none.
+// The index of the first coefficient that is p or more, in input order, and their number where there is none. It is searched for only where
+// there is one: finding the largest takes several coefficients at once.
 pub fn first_bad(p: u64, bytes: &[u8]) -> usize
+    ensures { λ r. ⌜ r ≡ firstBad p (coefficientsIn (now (bytes .entry))) ⌝ }
+{
+    if p <= largest(bytes) as u64 {
+        return search(p, bytes);
+    }
+    bytes.len() / 2
+}
+
+// A bound of all coefficients: the largest. Sixteen are compared at a time, each with one of sixteen bounds, as the compiler takes these at once.
+fn largest(bytes: &[u8]) -> u16
+    ensures { λ r. ⌜ NoneAbove r (coefficientsIn (now (bytes .entry))) ⌝ }
+{
+    let end = bytes.len() / 2;
+    let mut bounds = [0u16; 16];
+    let mut i = 0;
+    while i + 16 <= end {
+        raise(bytes, i, &mut bounds);
+        i += 16;
+    }
+    let mut most = top(bounds);
+    while i < end {
+        most = larger(most, coefficient_at(bytes, i));
+        i += 1;
+    }
+    most
+}
+
+// Each bound is raised to the coefficient at its place from index i on, where that is larger.
+fn raise(bytes: &[u8], i: usize, bounds: &mut [u16])
+    requires { ⌜ (i + 16 ≤ length (now bytes) / 2) × (length (now bounds) ≡ 16) ⌝ }
+    ensures { λ r. ⌜ Raised (coefficientsIn (now (bytes .entry))) i 16 (now (bounds .entry)) (now (bounds .exit)) ⌝ }
+{
+    let mut j = 0;
+    while j < 16 {
+        bounds[j] = larger(bounds[j], coefficient_at(bytes, i + j));
+        j += 1;
+    }
+}
+
+// A bound of the bounds: the largest.
+fn top(bounds: [u16; 16]) -> u16
+    ensures { λ r. ⌜ NoneAbove r bounds ⌝ }
+{
+    let mut most = 0u16;
+    let mut j = 0;
+    while j < 16 {
+        most = larger(most, bounds[j]);
+        j += 1;
+    }
+    most
+}
+
+fn larger(x: u16, y: u16) -> u16
+    ensures { λ r. ⌜ (x ≤ r) × (y ≤ r) ⌝ }
+{
+    if x < y { y } else { x }
+}
+
+fn search(p: u64, bytes: &[u8]) -> usize
     ensures { λ r. ⌜ r ≡ firstBad p (coefficientsIn (now (bytes .entry))) ⌝ }
 {
     let mut i = 0;
@@ -85,8 +146,26 @@ fn copy(bytes: &[u8], i: usize, out: &mut [u16], j: usize, k: usize)
     }
 }
 
-// The first m pairs, taken apart: their first polynomials into xs, their second into ys.
+// The first m pairs, taken apart: their first polynomials into xs, their second into ys. Where k is a number that is known, the copying is
+// written out.
 pub fn take_apart(k: usize, m: usize, bytes: &[u8], xs: &mut [u16], ys: &mut [u16])
+    requires { ⌜ Parting k m (now bytes) × (length (now xs) ≡ blockSize) × (length (now ys) ≡ blockSize) ⌝ }
+    ensures { λ r. ⌜ TakenApart k m (coefficientsIn (now (bytes .entry))) (now (xs .exit)) (now (ys .exit)) ⌝ }
+{
+    match k {
+        1 => apart(1, m, bytes, xs, ys),
+        2 => apart(2, m, bytes, xs, ys),
+        3 => apart(3, m, bytes, xs, ys),
+        4 => apart(4, m, bytes, xs, ys),
+        5 => apart(5, m, bytes, xs, ys),
+        6 => apart(6, m, bytes, xs, ys),
+        7 => apart(7, m, bytes, xs, ys),
+        8 => apart(8, m, bytes, xs, ys),
+        _ => apart(k, m, bytes, xs, ys),
+    }
+}
+
+fn apart(k: usize, m: usize, bytes: &[u8], xs: &mut [u16], ys: &mut [u16])
     requires { ⌜ Parting k m (now bytes) × (length (now xs) ≡ blockSize) × (length (now ys) ≡ blockSize) ⌝ }
     ensures { λ r. ⌜ TakenApart k m (coefficientsIn (now (bytes .entry))) (now (xs .exit)) (now (ys .exit)) ⌝ }
 {
@@ -99,11 +178,11 @@ pub fn take_apart(k: usize, m: usize, bytes: &[u8], xs: &mut [u16], ys: &mut [u1
 }
 
 // The one after the other, and zeros after them.
-pub fn joined(first: &[u8], second: &[u8]) -> [u8; 32]
+pub fn joined(first: &[u8], second: &[u8]) -> [u8; HELD]
     requires { ⌜ length (now first) + length (now second) ≤ heldBytes ⌝ }
     ensures { λ r. ⌜ r ≡ upto heldBytes (coefficient (now (first .entry) ++ now (second .entry))) ⌝ }
 {
-    let mut held = [0u8; 32];
+    let mut held = [0u8; HELD];
     let mut i = 0;
     while i < first.len() {
         held[i] = first[i];

@@ -14,6 +14,7 @@ use crate::bytes::four;
 use crate::bytes::joined;
 use crate::bytes::least;
 use crate::bytes::one;
+use crate::state::HELD;
 use crate::state::Stage;
 use crate::state::State;
 use packed::limits::MOST_PAIRS;
@@ -113,7 +114,7 @@ pub fn refused(why: Refusal) -> State
 {
     State {
         stage: Stage::Refused(why),
-        held: [0u8; 32],
+        held: [0u8; HELD],
         size: 0,
         pairs: 0,
         running: blank(),

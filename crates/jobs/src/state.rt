@@ -13,6 +13,9 @@ use packed::running::Record;
 // A buffer of so many bytes has room for every line.
 pub const LONGEST_LINE: usize = 126;
 
+// Room for a header, and for a pair of the longest polynomials.
+pub const HELD: usize = 32;
+
 pub enum Stage {
     // The header is not complete.
     Header,
@@ -26,7 +29,7 @@ pub enum Stage {
 // added up.
 pub struct State {
     pub stage: Stage,
-    pub held: [u8; 32],
+    pub held: [u8; HELD],
     pub size: usize,
     pub pairs: u64,
     pub running: Record,
@@ -37,7 +40,7 @@ pub fn start() -> State
 {
     State {
         stage: Stage::Header,
-        held: [0u8; 32],
+        held: [0u8; HELD],
         size: 0,
         pairs: 0,
         running: blank(),

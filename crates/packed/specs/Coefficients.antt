@@ -10,15 +10,18 @@
 --                               the promise of check_coefficients; check-coefficients-once: it allows one answer only
 --     RefusesCoefficient i r    the promise of refusals::coefficient: 8 at place i; coefficient-once: it allows one refusal only
 --     NoneAbove most xs         no coefficient is above most
+--     none-above-more, none-above-all
+--                               a loop that looks for the largest: its turn, and its end
 --     taken p xs                what packing takes of a list: the list itself; takenOne p x, of one coefficient
 --     taken-length, taken-at, taken-join, taken-below, taken-low, taken-operand
 --                               it has the list's length; it is taken one by one, and of joined lists from each; of a list below p it is the
 --                               list, and so below p, and an operand
-use Prim.Native.Nat.{ℕ, _+_, _≤_, _<_}
+use Prim.Native.Nat.{ℕ, _+_, _≤_, _<_, zero-le}
 use mathlib.Core.Path.{_≡_, refl, sym, ap, _∙_}
 use mathlib.Core.Bool.{Bool, true, false}
 use mathlib.Core.List.{List, _++_}
 use mathlib.Core.Logic.{_↔_}
+use native.Mathlib.Nat.{le-trans}
 use native.Mathlib.Decide.{decLt}
 use native.Mathlib.Omega.{arith}
 use lib.Dec.{leb, ltb}
@@ -42,6 +45,21 @@ firstBad p xs = first (tooLarge p xs) (length xs) 0
 
 pub record NoneAbove (most : ℕ) (xs : List ℕ) : Type 0 where
   pub each : (j : ℕ) → coefficient xs j ≤ most
+
+pub none-above-more : (xs : List ℕ) (i most next : ℕ) → ((j : ℕ) → j < i → coefficient xs j ≤ most) → most ≤ next → coefficient xs i ≤ next
+    → (j : ℕ) → j < i + 1 → coefficient xs j ≤ next
+none-above-more xs i most next before more here j h = go (decLt j i)
+  where
+    go : Dec (j < i) → coefficient xs j ≤ next
+    go (yes l) = le-trans (before j l) more
+    go (no l) = let last : j ≡ i = omega arith in rw last here
+
+pub none-above-all : (xs : List ℕ) (i most : ℕ) → length xs ≤ i → ((j : ℕ) → j < i → coefficient xs j ≤ most) → NoneAbove most xs
+none-above-all xs i most through each = record { each = λ j. go j (decLt j i) }
+  where
+    go : (j : ℕ) → Dec (j < i) → coefficient xs j ≤ most
+    go j (yes l) = each j l
+    go j (no l) = rw (coefficient-past xs j (omega arith)) zero-le
 
 abbrev pub firstBadOfTwo : ℕ → List ℕ → List ℕ → ℕ
 firstBadOfTwo p xs ys = pick (ltb (firstBad p xs) (length xs)) (firstBad p xs) (length xs + firstBad p ys)

@@ -1,75 +1,44 @@
--- `first_bad` meets its contract: the search from 0 is the search from i, at every turn. Assumes nothing.
-use Prim.Native.Nat.{_-_, _/_, _≤_, _<_}
+-- `first_bad` meets its contract: where the largest is below p there is none. Assumes nothing.
+use Prim.Native.Nat.{ℕ, _≤_, _<_}
 use mathlib.Core.Path.{_≡_, sym, _∙_}
-use native.Mathlib.Nat.{sub-zero}
+use mathlib.Core.List.{List}
+use native.Mathlib.Nat.{lt-of-le-of-lt}
 use native.Mathlib.Omega.{arith}
 use lib.ListN.{length}
 use denote.Ref.{now}
 use borrow.Author.Needs.{needs}
-use borrow.Author.Tests.{le-leb, lt-leb}
-use Rattle.polynomials.specs.Indices.{first}
-use Rattle.polynomials.specs.IndexLaws.{first-found, first-passed, first-ended}
+use borrow.Author.Tests.{lt-leb}
+use Rattle.polynomials.specs.IndexLaws.{first-is, first-none}
 use Rattle.polynomials.specs.Lists.{coefficient}
-use Rattle.packed.specs.Coefficients.{tooLarge, firstBad}
+use Rattle.packed.specs.Coefficients.{tooLarge, firstBad, NoneAbove}
 use Rattle.jobs.specs.Jobs.{coefficientsIn}
 use Rattle.jobs.specs.ByteLaws.{length-coefficientsIn}
 use Rattle.jobs.proofs.bytes.first_bad.Statement.{statement}
 use Rattle.jobs.proofs.bytes.first_bad.Tie as tie
 
-abbrev Inv-loop : tie.InvT-loop
-Inv-loop p bytes i₀ i =
-    (i ≤ length bytes / 2) × (firstBad p (coefficientsIn bytes) ≡ first (tooLarge p (coefficientsIn bytes)) (length bytes / 2 - i) i)
+-- no coefficient is above the largest, which is below p
+none : (p most : ℕ) (xs : List ℕ) → most < p → NoneAbove most xs → length xs ≡ firstBad p xs
+none p most xs h all =
+    let low : length xs ≤ firstBad p xs = first-none (tooLarge p xs) (length xs) .1 (λ j l. lt-leb p (coefficient xs j) (lt-of-le-of-lt (all .each j) h)) in
+    omega (arith, first-is (tooLarge p xs) (length xs) 0 .high)
 
-abbrev μ-loop : tie.MeasureT-loop
-μ-loop p bytes i₀ i = length bytes / 2 - i
+largest-requires : tie.Need-largest-requires
+largest-requires c κs = search needs
 
-loop-holds : tie.Need-loop-holds Inv-loop μ-loop
-loop-holds c = (omega arith, rw (length-coefficientsIn (now (c .before .args .bytes)), sub-zero))
-
-coefficient-at-requires : tie.Need-coefficient-at-requires Inv-loop μ-loop
-coefficient-at-requires c κs = search needs
-
-cast-if1 : tie.Need-cast-if1 Inv-loop μ-loop
+cast-if1 : tie.Need-cast-if1
 cast-if1 c = search needs
 
-returns : tie.Need-returns Inv-loop μ-loop
-returns c =
-    let a = c .before .before .before .before .before .args in
-    let l = c .before .before .before .loop in
-    let cs = coefficientsIn (now (a .bytes)) in
-    let bad : a .p ≤ coefficient cs (l .i) = omega arith in
-    sym (l .inv .1 ∙ first-found (tooLarge (a .p) cs) (length (now (a .bytes)) / 2) (l .i) (omega arith) (le-leb (a .p) (coefficient cs (l .i)) bad))
+search-requires : tie.Need-search-requires
+search-requires c κs = search needs
 
-add-i : tie.Need-add-i Inv-loop μ-loop
-add-i c = search needs
+returns : tie.Need-returns
+returns c = search needs
 
-loop-less : tie.Need-loop-less Inv-loop μ-loop
-loop-less c = search needs
-
-loop-again : tie.Need-loop-again Inv-loop μ-loop
-loop-again c =
-    let a = c .before .before .before .before .before .args in
-    let l = c .before .before .before .loop in
-    let cs = coefficientsIn (now (a .bytes)) in
-    let good : coefficient cs (l .i) < a .p = omega arith in
-    (omega arith, l .inv .1 ∙ first-passed (tooLarge (a .p) cs) (length (now (a .bytes)) / 2) (l .i) (omega arith) (lt-leb (a .p) (coefficient cs (l .i)) good))
-
-returns-2 : tie.Need-returns-2 Inv-loop μ-loop
+returns-2 : tie.Need-returns-2
 returns-2 c =
     let a = c .before .before .before .args in
-    sym (c .before .loop .inv .1 ∙ first-ended (tooLarge (a .p) (coefficientsIn (now (a .bytes)))) (length (now (a .bytes)) / 2) (c .before .loop .i) (omega arith))
+    let cs = coefficientsIn (now (a .bytes)) in
+    sym (length-coefficientsIn (now (a .bytes))) ∙ none (a .p) (c .before .largest .result) cs (c .if1 .left) (c .before .largest .ensures)
 
 pub first-bad-spec : {M : Type 1} → statement M
-first-bad-spec =
-    tie.close
-    (tie.spec
-    Inv-loop
-    μ-loop
-    loop-holds
-    coefficient-at-requires
-    cast-if1
-    returns
-    add-i
-    loop-less
-    loop-again
-    returns-2)
+first-bad-spec = tie.close (tie.spec largest-requires cast-if1 search-requires returns returns-2)

@@ -1,108 +1,153 @@
--- `take_apart` meets its contract: at every turn r pairs have been taken apart. Assumes nothing.
-use Prim.Native.Nat.{_-_, _≤_}
-use mathlib.Core.Path.{_≡_, refl, _∙_}
-use native.Mathlib.Omega.{arith}
-use lib.ListN.{length}
-use denote.Ref.{now}
+-- `take_apart` meets its contract. Assumes nothing.
 use borrow.Author.Needs.{needs}
-use Rattle.jobs.specs.Jobs.{coefficientsIn}
-use Rattle.jobs.specs.Apart.{TakenApart}
-use Rattle.jobs.specs.ByteLaws.{apart-none, apart-more, Turn, apart-turn}
 use Rattle.jobs.proofs.bytes.take_apart.Statement.{statement}
 use Rattle.jobs.proofs.bytes.take_apart.Tie as tie
 
-abbrev Inv-loop : tie.InvT-loop
-Inv-loop k m bytes xs₀ ys₀ r₀ xs ys r = (r ≤ m) × (length xs ≡ length xs₀) × (length ys ≡ length ys₀) × TakenApart k r (coefficientsIn bytes) xs ys
+apart-requires : tie.Need-apart-requires
+apart-requires c κs = rw (← c .before .before .match .keys1) (c .before .before .before .before .before .before .pre)
 
-abbrev μ-loop : tie.MeasureT-loop
-μ-loop k m bytes xs₀ ys₀ r₀ xs ys r = m - r
+apart-requires-2 : tie.Need-apart-requires-2
+apart-requires-2 c κs = rw (← c .before .before .match .keys2) (c .before .before .before .before .before .before .pre)
 
-turn : (c : tie.In-loop Inv-loop μ-loop) → Turn (c .before .before .before .before .before .args .k) (c .before .loop .r) (now (c .before .before .before .before .before .args .bytes))
-turn c =
-    let s = c .before .before .before .before .before in
-    apart-turn (s .args .k) (s .args .m) (c .before .loop .r) (now (s .args .bytes)) (s .pre .0) (c .loop-test .taken)
+apart-requires-3 : tie.Need-apart-requires-3
+apart-requires-3 c κs = rw (← c .before .before .match .keys3) (c .before .before .before .before .before .before .pre)
 
-loop-holds : tie.Need-loop-holds Inv-loop μ-loop
-loop-holds c =
-    let a = c .before .before .before .args in
-    (omega arith, refl, refl, apart-none (a .k) (coefficientsIn (now (a .bytes))) (now (a .xs)) (now (a .ys)))
+apart-requires-4 : tie.Need-apart-requires-4
+apart-requires-4 c κs = rw (← c .before .before .match .keys4) (c .before .before .before .before .before .before .pre)
 
-mul-copy : tie.Need-mul-copy Inv-loop μ-loop
-mul-copy c = omega (arith, turn c .few)
+apart-requires-5 : tie.Need-apart-requires-5
+apart-requires-5 c κs = rw (← c .before .before .match .keys5) (c .before .before .before .before .before .before .pre)
 
-mul-copy-2 : tie.Need-mul-copy-2 Inv-loop μ-loop
-mul-copy-2 c = omega (arith, turn c .first .there)
+apart-requires-6 : tie.Need-apart-requires-6
+apart-requires-6 c κs = rw (← c .before .before .match .keys6) (c .before .before .before .before .before .before .pre)
 
-mul-copy-3 : tie.Need-mul-copy-3 Inv-loop μ-loop
-mul-copy-3 c = omega (arith, turn (c .before) .first .room)
+apart-requires-7 : tie.Need-apart-requires-7
+apart-requires-7 c κs = rw (← c .before .before .match .keys7) (c .before .before .before .before .before .before .pre)
 
-copy-requires : tie.Need-copy-requires Inv-loop μ-loop
-copy-requires c κs = (turn (c .before) .first, omega arith)
+apart-requires-8 : tie.Need-apart-requires-8
+apart-requires-8 c κs = rw (← c .before .before .match .keys8) (c .before .before .before .before .before .before .pre)
 
-mul-copy-4 : tie.Need-mul-copy-4 Inv-loop μ-loop
-mul-copy-4 c = omega (arith, turn (c .before .before .before .before) .few)
+apart-requires-9 : tie.Need-apart-requires-9
+apart-requires-9 c κs = search needs
 
-add-copy : tie.Need-add-copy Inv-loop μ-loop
-add-copy c = omega (arith, turn (c .before .before .before .before) .few)
-
-mul-copy-5 : tie.Need-mul-copy-5 Inv-loop μ-loop
-mul-copy-5 c = omega (arith, turn (c .before .before .before .before) .second .there)
-
-mul-copy-6 : tie.Need-mul-copy-6 Inv-loop μ-loop
-mul-copy-6 c = omega (arith, turn (c .before .before .before .before .before) .second .room)
-
-copy-requires-2 : tie.Need-copy-requires-2 Inv-loop μ-loop
-copy-requires-2 c κs = (turn (c .before .before .before .before .before) .second, omega arith)
-
-add-r : tie.Need-add-r Inv-loop μ-loop
-add-r c = search needs
-
-loop-less : tie.Need-loop-less Inv-loop μ-loop
-loop-less c = search needs
-
-loop-again : tie.Need-loop-again Inv-loop μ-loop
-loop-again c =
-    let t = c .before .before .before .before .before .before .before .before in
-    let a = t .before .before .before .before .before .args in
-    let l = t .before .loop in
-    let x = c .before .before .before .before .before .before .copy in
-    let y = c .before .before .copy2 in (
-      omega arith,
-      x .kept .1 .1 .0 ∙ l .inv .1,
-      y .kept .1 .1 .0 ∙ l .inv .2,
-      apart-more (a .k) (l .r) (coefficientsIn (now (a .bytes))) (l .xs) (l .ys) (x .last .1 .1 .0) (y .last .1 .1 .0) (l .inv .3) (x .ensures) (y .ensures),
-    )
-
-same-length : tie.Need-same-length Inv-loop μ-loop
+same-length : tie.Need-same-length
 same-length c = search needs
 
-same-length-2 : tie.Need-same-length-2 Inv-loop μ-loop
+same-length-2 : tie.Need-same-length-2
 same-length-2 c = search needs
 
-returns : tie.Need-returns Inv-loop μ-loop
-returns c =
-    let all : c .before .loop .r ≡ c .before .before .before .before .before .args .m = omega arith in
-    rw (← all) (c .before .loop .inv .3)
+returns : tie.Need-returns
+returns c = rw (c .before .before .before .before .before .before .before .match .keys1) (c .before .before .before .before .apart .ensures)
+
+same-length-3 : tie.Need-same-length-3
+same-length-3 c = search needs
+
+same-length-4 : tie.Need-same-length-4
+same-length-4 c = search needs
+
+returns-2 : tie.Need-returns-2
+returns-2 c = rw (c .before .before .before .before .before .before .before .match .keys2) (c .before .before .before .before .apart2 .ensures)
+
+same-length-5 : tie.Need-same-length-5
+same-length-5 c = search needs
+
+same-length-6 : tie.Need-same-length-6
+same-length-6 c = search needs
+
+returns-3 : tie.Need-returns-3
+returns-3 c = rw (c .before .before .before .before .before .before .before .match .keys3) (c .before .before .before .before .apart3 .ensures)
+
+same-length-7 : tie.Need-same-length-7
+same-length-7 c = search needs
+
+same-length-8 : tie.Need-same-length-8
+same-length-8 c = search needs
+
+returns-4 : tie.Need-returns-4
+returns-4 c = rw (c .before .before .before .before .before .before .before .match .keys4) (c .before .before .before .before .apart4 .ensures)
+
+same-length-9 : tie.Need-same-length-9
+same-length-9 c = search needs
+
+same-length-10 : tie.Need-same-length-10
+same-length-10 c = search needs
+
+returns-5 : tie.Need-returns-5
+returns-5 c = rw (c .before .before .before .before .before .before .before .match .keys5) (c .before .before .before .before .apart5 .ensures)
+
+same-length-11 : tie.Need-same-length-11
+same-length-11 c = search needs
+
+same-length-12 : tie.Need-same-length-12
+same-length-12 c = search needs
+
+returns-6 : tie.Need-returns-6
+returns-6 c = rw (c .before .before .before .before .before .before .before .match .keys6) (c .before .before .before .before .apart6 .ensures)
+
+same-length-13 : tie.Need-same-length-13
+same-length-13 c = search needs
+
+same-length-14 : tie.Need-same-length-14
+same-length-14 c = search needs
+
+returns-7 : tie.Need-returns-7
+returns-7 c = rw (c .before .before .before .before .before .before .before .match .keys7) (c .before .before .before .before .apart7 .ensures)
+
+same-length-15 : tie.Need-same-length-15
+same-length-15 c = search needs
+
+same-length-16 : tie.Need-same-length-16
+same-length-16 c = search needs
+
+returns-8 : tie.Need-returns-8
+returns-8 c = rw (c .before .before .before .before .before .before .before .match .keys8) (c .before .before .before .before .apart8 .ensures)
+
+same-length-17 : tie.Need-same-length-17
+same-length-17 c = search needs
+
+same-length-18 : tie.Need-same-length-18
+same-length-18 c = search needs
+
+returns-9 : tie.Need-returns-9
+returns-9 c = search needs
 
 pub take-apart-spec : {M : Type 1} → statement M
 take-apart-spec =
     tie.close
     (tie.spec
-    Inv-loop
-    μ-loop
-    loop-holds
-    mul-copy
-    mul-copy-2
-    mul-copy-3
-    copy-requires
-    mul-copy-4
-    add-copy
-    mul-copy-5
-    mul-copy-6
-    copy-requires-2
-    add-r
-    loop-less
-    loop-again
+    apart-requires
+    apart-requires-2
+    apart-requires-3
+    apart-requires-4
+    apart-requires-5
+    apart-requires-6
+    apart-requires-7
+    apart-requires-8
+    apart-requires-9
     same-length
     same-length-2
-    returns)
+    returns
+    same-length-3
+    same-length-4
+    returns-2
+    same-length-5
+    same-length-6
+    returns-3
+    same-length-7
+    same-length-8
+    returns-4
+    same-length-9
+    same-length-10
+    returns-5
+    same-length-11
+    same-length-12
+    returns-6
+    same-length-13
+    same-length-14
+    returns-7
+    same-length-15
+    same-length-16
+    returns-8
+    same-length-17
+    same-length-18
+    returns-9)

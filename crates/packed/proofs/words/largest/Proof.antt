@@ -1,15 +1,11 @@
 -- `largest` meets its contract: after i turns none of the first i coefficients is above. Assumes nothing.
-use Prim.Native.Nat.{ℕ, _+_, _-_, _≤_, _<_, zero-le}
-use mathlib.Core.Path.{_≡_}
-use mathlib.Core.List.{List}
-use native.Mathlib.Nat.{le-trans}
-use native.Mathlib.Decide.{decLt}
+use Prim.Native.Nat.{ℕ, _-_, _≤_, _<_}
 use native.Mathlib.Omega.{arith}
 use lib.ListN.{length}
 use denote.Ref.{now}
 use borrow.Author.Needs.{needs}
 use Rattle.polynomials.specs.Lists.{coefficient}
-use Rattle.polynomials.specs.ListLaws.{coefficient-past}
+use Rattle.packed.specs.Coefficients.{none-above-more, none-above-all}
 use Rattle.packed.proofs.words.largest.Statement.{statement}
 use Rattle.packed.proofs.words.largest.Tie as tie
 
@@ -18,24 +14,6 @@ Inv-loop xs most₀ i₀ most i = (j : ℕ) → j < i → coefficient xs j ≤ m
 
 abbrev μ-loop : tie.MeasureT-loop
 μ-loop xs most₀ i₀ most i = length xs - i
-
--- ---- on plain values
-
-turn : (xs : List ℕ) (i most next : ℕ) → ((j : ℕ) → j < i → coefficient xs j ≤ most) → most ≤ next → coefficient xs i ≤ next → (j : ℕ) → j < i + 1 → coefficient xs j ≤ next
-turn xs i most next before more here j h = go (decLt j i)
-  where
-    go : Dec (j < i) → coefficient xs j ≤ next
-    go (yes l) = le-trans (before j l) more
-    go (no l) = let last : j ≡ i = omega arith in rw last here
-
-all : (xs : List ℕ) (i most : ℕ) → length xs ≤ i → ((j : ℕ) → j < i → coefficient xs j ≤ most) → (j : ℕ) → coefficient xs j ≤ most
-all xs i most through each j = go (decLt j i)
-  where
-    go : Dec (j < i) → coefficient xs j ≤ most
-    go (yes l) = each j l
-    go (no l) = rw (coefficient-past xs j (omega arith)) zero-le
-
--- ---- the needs
 
 loop-holds : tie.Need-loop-holds Inv-loop μ-loop
 loop-holds c = λ j l. absurd (omega arith)
@@ -58,12 +36,12 @@ loop-less c = search needs
 loop-again : tie.Need-loop-again Inv-loop μ-loop
 loop-again c =
     let l = c .before .before .before .loop in
-    λ j h. turn (now (c .before .before .before .before .before .args .xs)) (l .i) (l .most) (c .larger .result) (l .inv) (c .larger .ensures .0) (c .larger .ensures .1) j h
+    none-above-more (now (c .before .before .before .before .before .args .xs)) (l .i) (l .most) (c .larger .result) (l .inv) (c .larger .ensures .0) (c .larger .ensures .1)
 
 returns : tie.Need-returns Inv-loop μ-loop
 returns c =
     let xs = now (c .before .before .before .args .xs) in
-    record { each = λ j. all xs (c .before .loop .i) (c .before .loop .most) (c .loop-test .left) (c .before .loop .inv) j }
+    none-above-all xs (c .before .loop .i) (c .before .loop .most) (c .loop-test .left) (c .before .loop .inv)
 
 pub largest-spec : {M : Type 1} → statement M
 largest-spec =
