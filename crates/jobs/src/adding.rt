@@ -4,7 +4,7 @@ ghost use mathlib.Core.Bool.{false};
 ghost use mathlib.Core.List.{_++_};
 ghost use Prim.Native.Nat.{_+_, _-_, _*_, _^_, _≤_};
 ghost use lib.ListN.{length};
-ghost use Rattle.packed.specs.Limits.{mostPairs};
+ghost use Rattle.packed.specs.Limits.{mostCoefficients, mostPairs};
 ghost use Rattle.packed.specs.Running.{recordOf};
 ghost use Rattle.jobs.specs.Jobs.{pairBytes};
 ghost use Rattle.jobs.specs.States.{heldIn, room, wholeBytes, sumAfter, pairsAfter, addingCause};
@@ -17,7 +17,6 @@ use crate::bytes::take_apart;
 use crate::header::refused;
 use crate::state::Stage;
 use crate::state::State;
-use packed::limits::MOST_COEFFICIENTS;
 use packed::refusals;
 use packed::running::Record;
 use packed::running::Sum;
@@ -111,7 +110,7 @@ fn feed_block(running: Record, bytes: &[u8]) -> Record
 
 // 4k
 pub fn pair_bytes(k: u64) -> u64
-    requires { ⌜ k ≤ 8 ⌝ }
+    requires { ⌜ k ≤ mostCoefficients ⌝ }
     ensures { λ r. ⌜ r ≡ pairBytes k ⌝ }
 {
     4 * k
@@ -119,7 +118,7 @@ pub fn pair_bytes(k: u64) -> u64
 
 // The bytes of pairs that are still to come.
 pub fn bytes_to_come(k: u64, pairs: u64) -> usize
-    requires { ⌜ (k ≤ 8) × (pairs ≤ mostPairs) ⌝ }
+    requires { ⌜ (k ≤ mostCoefficients) × (pairs ≤ mostPairs) ⌝ }
     ensures { λ r. ⌜ r ≡ pairBytes k * pairs ⌝ }
 {
     (pair_bytes(k) * pairs) as usize
@@ -127,7 +126,7 @@ pub fn bytes_to_come(k: u64, pairs: u64) -> usize
 
 // The index in the job of a coefficient, from its index among those after so many pairs.
 fn index_in_job(k: u64, pairs: u64, i: usize) -> usize
-    requires { ⌜ (k ≤ 8) × (pairs ≤ mostPairs) × (i ≤ 2 ^ 62) ⌝ }
+    requires { ⌜ (k ≤ mostCoefficients) × (pairs ≤ mostPairs) × (i ≤ 2 ^ 62) ⌝ }
     ensures { λ r. ⌜ r ≡ 2 * k * pairs + i ⌝ }
 {
     (2 * k * pairs) as usize + i
@@ -135,7 +134,7 @@ fn index_in_job(k: u64, pairs: u64, i: usize) -> usize
 
 // The bytes of the whole pairs among them.
 fn whole_bytes(k: u64, bytes: usize) -> usize
-    requires { ⌜ (1 ≤ k) × (k ≤ 8) ⌝ }
+    requires { ⌜ (1 ≤ k) × (k ≤ mostCoefficients) ⌝ }
     ensures { λ r. ⌜ r ≡ wholeBytes k bytes ⌝ }
 {
     let pair = pair_bytes(k) as usize;

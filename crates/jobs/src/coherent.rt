@@ -9,6 +9,7 @@ use crate::bytes::wide;
 use crate::header::HEADER_SIZE;
 use crate::state::Stage;
 use crate::state::State;
+use packed::limits::MOST_COEFFICIENTS;
 use packed::limits::MOST_PAIRS;
 use packed::refusals::Refusal;
 use packed::running::Record;
@@ -16,7 +17,7 @@ use packed::running::Taken;
 use packed::running::feed;
 
 // The indices of coefficients in a job of the most and the longest pairs.
-const MOST_INDICES: u64 = 16000000;
+const MOST_INDICES: u64 = 2 * MOST_COEFFICIENTS * MOST_PAIRS;
 
 pub fn state_cause(state: State) -> bool
     ensures { λ r. ⌜ r ≡ stateCause state ⌝ }

@@ -7,6 +7,7 @@ use crate::hand::one_residue;
 use crate::hand::record;
 use crate::hand::residues;
 use crate::shown::show_taken;
+use jobs::state::HELD;
 use jobs::state::Stage;
 use jobs::state::State;
 use packed::running::Record;
@@ -187,7 +188,7 @@ fn show_bare(p: u64, k: u64, t: u64, n: u64) {
 }
 
 // At the last pair of the most and the longest.
-fn show_last_of_all(held: [u8; 32], size: usize, piece: &[u8]) {
+fn show_last_of_all(held: [u8; HELD], size: usize, piece: &[u8]) {
     show_adding_of(
         held,
         size,
@@ -202,11 +203,11 @@ fn show_unheld(pairs: u64, running: Record) {
 }
 
 // A whole pair at k = 2, and two at k = 1.
-fn show(held: [u8; 32], size: usize, pairs: u64, running: Record) {
+fn show(held: [u8; HELD], size: usize, pairs: u64, running: Record) {
     show_adding_of(held, size, pairs, running, &[0, 1, 0, 2, 0, 2, 0, 2]);
 }
 
-fn show_adding_of(held: [u8; 32], size: usize, pairs: u64, running: Record, piece: &[u8]) {
+fn show_adding_of(held: [u8; HELD], size: usize, pairs: u64, running: Record, piece: &[u8]) {
     let state = State {
         stage: Stage::Pairs,
         held,

@@ -1,6 +1,7 @@
 // Lines and states, compared field by field.
 use crate::shown::Line;
 use check::same;
+use jobs::state::HELD;
 use jobs::state::Stage;
 use jobs::state::State;
 use packed::refusals::Refusal;
@@ -37,7 +38,7 @@ pub fn is_same_state(a: State, b: State) -> bool {
     is_same_record(a.running, b.running)
 }
 
-fn is_same_held(xs: [u8; 32], ys: [u8; 32]) -> bool {
+fn is_same_held(xs: [u8; HELD], ys: [u8; HELD]) -> bool {
     same(&xs, &ys)
 }
 

@@ -1,4 +1,5 @@
 // What states are put together from by hand.
+use jobs::state::HELD;
 use packed::running::Record;
 use packed::running::Sum;
 use packed::setting::Setting;
@@ -8,11 +9,11 @@ pub const ALL: u64 = 18446744073709551615;
 pub const ALL_BYTES: usize = 18446744073709551615;
 
 // The bytes, as far as there is room, and zeros after them.
-pub fn held(bytes: &[u8]) -> [u8; 32] {
-    let mut all = [0u8; 32];
+pub fn held(bytes: &[u8]) -> [u8; HELD] {
+    let mut all = [0u8; HELD];
     let mut i = 0;
     while i < bytes.len() {
-        if 32 <= i {
+        if HELD <= i {
             return all;
         }
         all[i] = bytes[i];
@@ -22,7 +23,7 @@ pub fn held(bytes: &[u8]) -> [u8; 32] {
 }
 
 // The bytes, zeros, and one at the end.
-pub fn held_and_last(bytes: &[u8]) -> [u8; 32] {
+pub fn held_and_last(bytes: &[u8]) -> [u8; HELD] {
     let mut all = held(bytes);
     all[31] = 1;
     all

@@ -4,9 +4,9 @@ use crate::hand::ALL_BYTES;
 use crate::hand::blank;
 use crate::hand::held;
 use crate::hand::held_and_last;
-use crate::hand::one_residue;
-use crate::hand::record;
+use crate::idle::show_records;
 use crate::shown::show_taken;
+use jobs::state::HELD;
 use jobs::state::Stage;
 use jobs::state::State;
 use packed::running::Record;
@@ -15,7 +15,7 @@ pub fn show_heading() {
     size();
     unused();
     pairs();
-    running();
+    show_records(Stage::Header, &[2, 0, 1, 0, 2, 0, 2, 0, 2]);
 }
 
 // 14 bytes are no header yet, and 15 are one that take would have acted on.
@@ -63,24 +63,7 @@ fn pairs() {
     show(held(&[0, 0, 0, 35]), 4, 3, blank());
 }
 
-// A record where none belongs: in each field, and one that is coherent.
-fn running() {
-    show_record(record(1, 0, 0, 0, 0, 0, [0; 15]));
-    show_record(record(0, 1, 0, 0, 0, 0, [0; 15]));
-    show_record(record(0, 0, 1, 0, 0, 0, [0; 15]));
-    show_record(record(0, 0, 0, 1, 0, 0, [0; 15]));
-    show_record(record(0, 0, 0, 0, 1, 0, [0; 15]));
-    show_record(record(0, 0, 0, 0, 0, 1, [0; 15]));
-    show_record(record(0, 0, 0, 0, 0, 0, one_residue(0, 1)));
-    show_record(record(0, 0, 0, 0, 0, 0, one_residue(14, 1)));
-    show_record(record(3, 2, 5, 2, 0, 0, [0; 15]));
-}
-
-fn show_record(running: Record) {
-    show(held(&[0; 0]), 0, 0, running);
-}
-
-fn show(held: [u8; 32], size: usize, pairs: u64, running: Record) {
+fn show(held: [u8; HELD], size: usize, pairs: u64, running: Record) {
     let state = State {
         stage: Stage::Header,
         held,

@@ -7,6 +7,7 @@ mod buffers;
 mod hand;
 mod headers;
 mod heading;
+mod idle;
 mod large;
 mod made;
 mod rows;

@@ -4,9 +4,9 @@ use crate::hand::ALL_BYTES;
 use crate::hand::blank;
 use crate::hand::held;
 use crate::hand::held_and_last;
-use crate::hand::one_residue;
-use crate::hand::record;
+use crate::idle::show_records;
 use crate::shown::show_taken;
+use jobs::state::HELD;
 use jobs::state::Stage;
 use jobs::state::State;
 use packed::refusals::Refusal;
@@ -18,7 +18,13 @@ pub fn show_settled() {
     indices();
     bytes();
     pairs();
-    running();
+    show_records(
+        Stage::Refused(Refusal {
+            number: 6,
+            place: 0,
+        }),
+        &[0, 1, 2],
+    );
 }
 
 // A job is refused by 1 to 6, 8, 13 and 17, and by no other number.
@@ -65,32 +71,15 @@ fn pairs() {
     show(13, held(&[0; 0]), 0, ALL, blank());
 }
 
-// There is no record any more.
-fn running() {
-    show_record(record(1, 0, 0, 0, 0, 0, [0; 15]));
-    show_record(record(0, 1, 0, 0, 0, 0, [0; 15]));
-    show_record(record(0, 0, 1, 0, 0, 0, [0; 15]));
-    show_record(record(0, 0, 0, 1, 0, 0, [0; 15]));
-    show_record(record(0, 0, 0, 0, 1, 0, [0; 15]));
-    show_record(record(0, 0, 0, 0, 0, 1, [0; 15]));
-    show_record(record(0, 0, 0, 0, 0, 0, one_residue(0, 1)));
-    show_record(record(0, 0, 0, 0, 0, 0, one_residue(14, 1)));
-    show_record(record(3, 2, 5, 2, 0, 0, [0; 15]));
-}
-
-fn show_record(running: Record) {
-    show(6, held(&[0; 0]), 0, 0, running);
-}
-
 fn show_bare(number: u64, place: u64) {
     show_refused(Refusal { number, place }, held(&[0; 0]), 0, 0, blank());
 }
 
-fn show(number: u64, held: [u8; 32], size: usize, pairs: u64, running: Record) {
+fn show(number: u64, held: [u8; HELD], size: usize, pairs: u64, running: Record) {
     show_refused(Refusal { number, place: 0 }, held, size, pairs, running);
 }
 
-fn show_refused(why: Refusal, held: [u8; 32], size: usize, pairs: u64, running: Record) {
+fn show_refused(why: Refusal, held: [u8; HELD], size: usize, pairs: u64, running: Record) {
     let state = State {
         stage: Stage::Refused(why),
         held,
