@@ -3,8 +3,10 @@
 --     pairs-even                            two bytes a coefficient, 2k coefficients a pair
 --     share                                 how often b goes into m b and more
 --     coefficients-join, pairs-in-join      the coefficients of joined bytes, and the pairs of joined coefficients, where the first are whole
+--     k-some, k-few                         of a coherent record k is from 1 to 8
 --     sum-join, sum-none                    bytes one after the other are added up as joined bytes are; less than a pair adds nothing
 --     sum-total, sum-coherent               how many pairs were added; a coherent record stays so
+--     pairs-below                           pairs of coefficients below p are operands
 use Prim.Native.Nat.{ℕ, _+_, _-_, _*_, _/_, _≤_, _<_}
 use mathlib.Core.Path.{_≡_, sym, ap, _∙_}
 use mathlib.Core.List.{List, _++_}
@@ -19,8 +21,9 @@ use Rattle.polynomials.specs.Blocks.{block, pairsUpto}
 use Rattle.polynomials.specs.BlockLaws.{block-operand, length-pairs, pairs-operands}
 use Rattle.polynomials.specs.PairLaws.{pairs-same, pairs-more, inside-first, inside-second}
 use Rattle.layout.specs.Numbers.{numberAt, numberAt-same}
-use Rattle.packed.specs.Limits.{mostPairs}
+use Rattle.packed.specs.Limits.{mostCoefficients, mostPairs}
 use Rattle.packed.specs.Coefficients.{taken, taken-length, taken-join, taken-low}
+use Rattle.packed.specs.Bounds.{bounds}
 use Rattle.packed.specs.Running.{Coherent, afterPairs}
 use Rattle.packed.specs.RunningLaws.{after-join, after-total, coherent-after}
 use Rattle.packed.specs.declared.setting.Setting.{Setting}
@@ -86,6 +89,14 @@ pairs-in-join k m cs ds hk h =
     second i r e = rw e (inside-second k (2 * m) cs ds size r)
 
 -- ---- adding up
+
+-- of a coherent record, k is in range
+module _ (s : Setting) (u : Sum) (c : Coherent s u) where
+  pub k-some : 1 ≤ s .k
+  k-some = bounds s (c .accepted) .range .choice .k-low
+
+  pub k-few : s .k ≤ mostCoefficients
+  k-few = bounds s (c .accepted) .range .choice .k-high
 
 -- the bytes of m pairs are those of 2 m k coefficients
 pub pairs-even : (m k size : ℕ) → size ≡ m * pairBytes k → size ≡ m * (2 * k) * 2

@@ -6,6 +6,7 @@
 --     verdictCause v               the verdict is a refusal that no bytes give
 --     refuse-given, then-given     it is none such where number and place are those of a refusal that bytes give; nor are two checks in order
 --     header-refusal               what the header's checks refuse with is a refusal that bytes give
+--     Waiting st, adding-waits     what a coherent state says while pairs are added up: a record to add to, and less than a pair in wait
 use Prim.Native.Nat.{ℕ, _≤_, _<_}
 use mathlib.Core.Path.{_≡_, refl}
 use mathlib.Core.Bool.{Bool, true, false}

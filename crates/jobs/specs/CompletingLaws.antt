@@ -1,7 +1,7 @@
 -- What is held is made complete from a piece: so many bytes of it that there are as many as are wanted, or all of it. Assumes nothing.
 --     Completing st piece want end     end bytes of the piece are taken for that
 --     begun                            what is held, and they
---     held-size, begun-size, begun-fits
+--     held-size, first-size, begun-size, begun-fits
 --                                      their numbers; there is room for them
 --     all-taken, complete              where they are too few the whole piece is taken; else there are as many as are wanted
 --     begun-back                       an array that they were put into gives them back

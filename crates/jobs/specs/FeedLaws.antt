@@ -2,6 +2,11 @@
 --     parting                 a block's pairs are there, and there is room for them
 --     feeding, fed-pairs      taken apart they are lists that feed takes, and the pairs that they hold are those in the bytes
 --     fed-block               so feed refuses nothing, and adds up what is in the bytes
+--     FedSoFar                the bytes before place i are fed, whole pairs
+--     fed-none, fed-block-fits, fed-more, some-more, fed-all
+--                             a loop that feeds them: at its start; what is next is a block; after it; there is more of it; at its end
+--     blockBytes, block-bytes-most
+--                             the most bytes of a block
 use Prim.Native.Nat.{ℕ, suc, _+_, _-_, _*_, _/_, _%_, _≤_, _<_, min}
 use mathlib.Core.Path.{_≡_, sym, ap, _∙_}
 use mathlib.Core.List.{List, [], _++_}
@@ -29,7 +34,7 @@ use Rattle.jobs.specs.States.{sumAfter}
 use Rattle.jobs.specs.Apart.{blockSize, Parting, TakenApart}
 use Rattle.jobs.specs.Adding.{Feedable, Block}
 use Rattle.jobs.specs.ByteLaws.{length-coefficientsIn}
-use Rattle.jobs.specs.AddingLaws.{below-parts, pairs-even, coefficients-join, sum-join, sum-none, sum-total, sum-coherent}
+use Rattle.jobs.specs.AddingLaws.{k-some, k-few, below-parts, pairs-even, coefficients-join, sum-join, sum-none, sum-total, sum-coherent}
 
 -- a place inside a block inside all of them
 inside : (k m r j : ℕ) → r < m → j < k → r * k + j < m * k
@@ -39,12 +44,6 @@ module _ (s : Setting) (u : Sum) (bs : List ℕ) (b : Block s u bs) where
   abbrev pub pairs : ℕ
   pairs = length bs / pairBytes (s .k)
 
-  pub k-low : 1 ≤ s .k
-  k-low = bounds s (b .feedable .coherent .accepted) .range .choice .k-low
-
-  pub k-high : s .k ≤ 8
-  k-high = bounds s (b .feedable .coherent .accepted) .range .choice .k-high
-
   size : length bs ≡ pairs * (2 * s .k) * 2
   size = pairs-even pairs (s .k) (length bs) (omega (arith, div-add-mod' (length bs) (pairBytes (s .k)), b .feedable .whole))
 
@@ -53,7 +52,7 @@ module _ (s : Setting) (u : Sum) (bs : List ℕ) (b : Block s u bs) where
 
   pub parting : Parting (s .k) pairs bs
   parting = record {
-    k-low = k-low;
+    k-low = k-some s u (b .feedable .coherent);
     room = b .small;
     there = omega (arith, half, mul-assoc pairs 2 (s .k), mul-comm pairs 2, ap (λ (n : ℕ). n * s .k) (mul-comm pairs 2));
   }
@@ -86,14 +85,14 @@ module _ (s : Setting) (u : Sum) (bs : List ℕ) (b : Block s u bs) where
 
           go : Dec (j < pairs * s .k) → coefficient (take (pairs * s .k) zs) j < s .p
           go (yes l) =
-              let hr : j / s .k < pairs = div-lt-iff-lt-mul k-low .1 l in
-              let hj : j % s .k < s .k = mod-lt j k-low in
+              let hr : j / s .k < pairs = div-lt-iff-lt-mul (k-some s u (b .feedable .coherent)) .1 l in
+              let hj : j % s .k < s .k = mod-lt j (k-some s u (b .feedable .coherent)) in
               let here : coefficient (take (pairs * s .k) zs) j ≡ coefficient (coefficientsIn bs) (from (j / s .k) * s .k + j % s .k) = ap (coefficient (take (pairs * s .k) zs)) (sym place) ∙ at (j / s .k) (j % s .k) hr hj in
               rw here (b .feedable .below (from (j / s .k) * s .k + j % s .k))
           go (no l) = rw (coefficient-past (take (pairs * s .k) zs) j (rw (cut zs h) (omega arith))) (omega (arith, bounds s (b .feedable .coherent .accepted) .range .choice .p-low))
 
     many : (zs : List ℕ) → length zs ≡ blockSize → length (take (pairs * s .k) zs) / s .k ≡ pairs
-    many zs h = rw (cut zs h) (mul-div-cancel pairs k-low)
+    many zs h = rw (cut zs h) (mul-div-cancel pairs (k-some s u (b .feedable .coherent)))
 
     pub feeding : Feeding s u left right
     feeding = record {
@@ -108,7 +107,7 @@ module _ (s : Setting) (u : Sum) (bs : List ℕ) (b : Block s u bs) where
     pub fed-pairs : fedPairs s left right ≡ pairsIn (s .k) (taken (s .p) (coefficientsIn bs))
     fed-pairs =
         let count : length (taken (s .p) left) / s .k ≡ pairs = rw (taken-length (s .p) left) (many xs hx) in
-        let all : length (taken (s .p) (coefficientsIn bs)) / (2 * s .k) ≡ pairs = rw (taken-length (s .p) (coefficientsIn bs), length-coefficientsIn bs, half) (mul-div-cancel pairs (omega (arith, k-low))) in
+        let all : length (taken (s .p) (coefficientsIn bs)) / (2 * s .k) ≡ pairs = rw (taken-length (s .p) (coefficientsIn bs), length-coefficientsIn bs, half) (mul-div-cancel pairs (omega (arith, (k-some s u (b .feedable .coherent))))) in
         rw (count, all)
         (pairs-same pairs (block (s .k) (taken (s .p) left)) (λ i. block (s .k) (taken (s .p) (coefficientsIn bs)) (2 * i)) (block (s .k) (taken (s .p) right)) (λ i. block (s .k) (taken (s .p) (coefficientsIn bs)) (2 * i + 1))
         (same-block xs hx (λ r. 2 * r) (apart .left))
@@ -162,24 +161,18 @@ module _ (s : Setting) (u : Sum) (bs : List ℕ) (f : Feedable s u bs) where
   abbrev b : ℕ
   b = pairBytes (s .k)
 
-  pub k-some : 1 ≤ s .k
-  k-some = bounds s (f .coherent .accepted) .range .choice .k-low
-
-  pub k-few : s .k ≤ 8
-  k-few = bounds s (f .coherent .accepted) .range .choice .k-high
-
   b-some : 0 < b
-  b-some = omega (arith, k-some)
+  b-some = omega (arith, (k-some s u (f .coherent)))
 
   some-block : 0 < blockBytes (s .k)
   some-block = mul-pos (go (decLt (blockSize / s .k) 1)) b-some
     where
       go : Dec (blockSize / s .k < 1) → 0 < blockSize / s .k
-      go (yes l) = let few : blockSize < 1 * s .k = div-lt-iff-lt-mul k-some .0 l in absurd (omega (arith, k-few))
+      go (yes l) = let few : blockSize < 1 * s .k = div-lt-iff-lt-mul (k-some s u (f .coherent)) .0 l in absurd (omega (arith, (k-few s u (f .coherent))))
       go (no l) = omega arith
 
   pub fed-none : FedSoFar s u bs (recordOf s u) 0
-  fed-none = record { most = omega arith; whole = zero-mod b; here = ap (recordOf s) (sym (sum-none s u k-some [] (omega (arith, k-some)))) }
+  fed-none = record { most = omega arith; whole = zero-mod b; here = ap (recordOf s) (sym (sum-none s u (k-some s u (f .coherent)) [] (omega (arith, (k-some s u (f .coherent)))))) }
 
   pub fed-all : (fed : Record) (i : ℕ) → FedSoFar s u bs fed i → length bs ≤ i → fed ≡ recordOf s (sumAfter s u bs)
   fed-all fed i h l = h .here ∙ ap (λ (l : List ℕ). recordOf s (sumAfter s u l)) (take-all i bs l)
@@ -231,9 +224,9 @@ module _ (s : Setting) (u : Sum) (bs : List ℕ) (f : Feedable s u bs) where
     pub fed-block-fits : Block (fed .setting) (fed .sum) chunk
     fed-block-fits = rw (h .here) (record {
       feedable = record {
-        coherent = sum-coherent s u k-some (take i bs) (f .coherent) (parts-below .0) (rw (length-take-le i bs (h .most)) (omega (arith, now .room, f .room)));
+        coherent = sum-coherent s u (k-some s u (f .coherent)) (take i bs) (f .coherent) (parts-below .0) (rw (length-take-le i bs (h .most)) (omega (arith, now .room, f .room)));
         whole = rw (chunk-size, now .is) (mul-mod-left (now .count) b);
-        room = rw (sum-total s u k-some (take i bs), length-take-le i bs (h .most), chunk-count) (omega (arith, now .room, f .room));
+        room = rw (sum-total s u (k-some s u (f .coherent)) (take i bs), length-take-le i bs (h .most), chunk-count) (omega (arith, now .room, f .room));
         below = parts-below .1;
       };
       small = rw chunk-count (le-trans (mul-le-mul-right {m = now .count} {n = blockSize / s .k} (s .k) (now .few)) (div-mul-le-self blockSize (s .k)));
@@ -243,7 +236,7 @@ module _ (s : Setting) (u : Sum) (bs : List ℕ) (f : Feedable s u bs) where
     fed-more r e = record {
       most = inside-all;
       whole = rw past (mul-mod-left (i / b + now .count) b);
-      here = e ∙ rw (h .here, next) (ap (recordOf s) (sym (sum-join s u k-some (i / b) (take i bs) chunk begun)));
+      here = e ∙ rw (h .here, next) (ap (recordOf s) (sym (sum-join s u (k-some s u (f .coherent)) (i / b) (take i bs) chunk begun)));
     }
 
     pub some-more : i < length bs → 0 < d

@@ -1,8 +1,9 @@
 -- Laws of the header, and of taking its bytes. Assumes nothing.
 --     Header bs                    what an accepted header says: it is complete, its setting is accepted, and the declared bytes are so many pairs
 --     header-passed                no check refuses exactly such a header
---     header-same                  the header's checks and numbers do not look at later bytes
---     header-adding                after it pairs can be added up
+--     header-same, length-same, setting-same, declared-same
+--                                  the header's checks and numbers do not look at later bytes
+--     header-adding, header-room   after it pairs can be added up, and all that is declared is to come
 --     header-opened                bytes that start with a complete header: its checks are made, and then the bytes after it are taken
 use Prim.Native.Nat.{ℕ, _+_, _-_, _/_, _%_, _≤_}
 use mathlib.Core.Path.{_≡_, sym, ap, _∙_}
@@ -77,8 +78,8 @@ module _ (bs ys : List ℕ) (h : headerBytes ≤ length bs) where
       made : ℕ → ℕ → ℕ → ℕ → Setting
       made p k t n = record { p = p; k = k; t = t; n = n }
 
-  pub pairs-same : declaredPairs (bs ++ ys) ≡ declaredPairs bs
-  pairs-same = ap (λ (n : ℕ). (n - 11) / pairBytes (settingIn (bs ++ ys) .k)) length-same ∙ ap (λ (s : Setting). declaredBytes bs / pairBytes (s .k)) setting-same
+  pub declared-same : declaredPairs (bs ++ ys) ≡ declaredPairs bs
+  declared-same = ap (λ (n : ℕ). (n - 11) / pairBytes (settingIn (bs ++ ys) .k)) length-same ∙ ap (λ (s : Setting). declaredBytes bs / pairBytes (s .k)) setting-same
 
   pub header-same : headerChecks (bs ++ ys) ≡ headerChecks bs
   unfolding headerChecks
@@ -107,6 +108,6 @@ header-opened header rest all =
       le-ltb (length (header ++ rest)) headerBytes (omega (arith, length-append header rest)),
       header-same header rest h,
       setting-same header rest h,
-      pairs-same header rest h,
+      declared-same header rest h,
       drop-at header rest headerBytes all,
     )

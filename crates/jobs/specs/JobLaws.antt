@@ -38,7 +38,7 @@ use Rattle.jobs.specs.Adding.{Adding}
 use Rattle.jobs.specs.ByteLaws.{length-coefficientsIn}
 use Rattle.jobs.specs.AddingLaws.{sum-total, pairs-below}
 use Rattle.jobs.specs.TakingLaws.{Fits, checks-fit, checks-stay, back-short, held-fits, adding-next, pairs-on}
-use Rattle.jobs.specs.HeaderLaws.{Header, header-passed, header-adding, header-room, setting-same, pairs-same, header-same}
+use Rattle.jobs.specs.HeaderLaws.{Header, header-passed, header-adding, header-room, setting-same, declared-same, header-same}
 use Rattle.jobs.specs.CoherentLaws.{heading-coherent, settled-coherent, adding-coherent, header-refusal, held-back}
 use Rattle.jobs.specs.declared.state.State.{State}
 use Rattle.jobs.specs.declared.state.Stage.the-variants as inStage
@@ -73,9 +73,9 @@ module _ (s : Setting) (u : Sum) (pairs : ℕ) (a : Adding s u pairs) (bs : List
       rw (adding-coherent s (sumAfter s u bs) pairs back (bytes-drop (wholeBytes (s .k) (length bs)) bs b) (adding-next s u pairs a bs f) short (held .few) (held .below), held-back inStage.Pairs back pairs (recordOf s (sumAfter s u bs)) (omega (arith, bounds s (a .coherent .accepted) .range .choice .k-high)))
       (sym (pairs-on s u pairs a bs f ys))
 
-  pairs-more : (ys : List ℕ) → takenBy (pairsAfter s u pairs bs) ys ≡ pairsAfter s u pairs (bs ++ ys)
+  adding-more : (ys : List ℕ) → takenBy (pairsAfter s u pairs bs) ys ≡ pairsAfter s u pairs (bs ++ ys)
   unfolding pairsAfter
-  pairs-more ys = go (bodyChecks s u pairs bs) refl
+  adding-more ys = go (bodyChecks s u pairs bs) refl
     where
       next : List ℕ → State
       next zs = adding s (sumAfter s u zs) pairs (drop (wholeBytes (s .k) (length zs)) zs)
@@ -93,8 +93,8 @@ after-more bs ys b = go (decLt (length bs) headerBytes)
 
     opened : headerBytes ≤ length bs → (v : Verdict) → headerChecks bs ≡ v → takenBy (at bs) ys ≡ at (bs ++ ys)
     opened h (answered x) e =
-        rw (header-same bs ys h, e, setting-same bs ys h, pairs-same bs ys h, drop-append-le headerBytes bs ys h)
-        (pairs-more (settingIn bs) freshSum (declaredPairs bs) (header-adding bs (header-passed bs e)) (drop headerBytes bs) (bytes-drop headerBytes bs b) ys)
+        rw (header-same bs ys h, e, setting-same bs ys h, declared-same bs ys h, drop-append-le headerBytes bs ys h)
+        (adding-more (settingIn bs) freshSum (declaredPairs bs) (header-adding bs (header-passed bs e)) (drop headerBytes bs) (bytes-drop headerBytes bs b) ys)
     opened h (refused number place) e = rw (header-same bs ys h, e) (settled-on number place ys)
 
     go : Dec (length bs < headerBytes) → takenBy (pick (ltb (length bs) headerBytes) (heading bs) (at bs)) ys ≡ pick (ltb (length (bs ++ ys)) headerBytes) (heading (bs ++ ys)) (at (bs ++ ys))

@@ -1,4 +1,5 @@
 -- The line that a job is answered with, in ASCII bytes. Definitions only; LineLaws shows what it is read back as.
+--     space, colon, lineEnd, refusedWord     the bytes that are no numbers
 --     spaced ns                              the numbers in decimal, one space before each
 --     sumsLine s pairs reductions sums       p, k, t, n, pairs, reductions, a colon directly after, the coefficients, and a line end
 --     refusedLine number place               `refused`, number, place, and a line end

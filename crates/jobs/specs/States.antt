@@ -1,21 +1,25 @@
 -- The state that takes a job's bytes in pieces: start, take, finish. What take and finish do is said for every state; JobLaws shows that from a
 -- start the state depends on the joined bytes alone, and that finishing gives the job's line.
+--     heldBytes                     32, the most that can be held
 --     holding stage bs pairs r      the state at a stage that holds the bytes bs, zeros after them, a number of declared pairs, and a record
 --     heading bs                    the header is not complete: its bytes so far; blank, the record there, all zero
 --     adding s u pairs bs           pairs are added up: the record, and the bytes of the open pair
 --     settled number place          a refusal that no further byte can change; nothing else is held
 --     heldIn st                     the bytes that a state holds
 --     room s u pairs                the bytes of the pairs that are still to come
+--     indexCheck p before cs        8 with the index in the job of the first bad coefficient, where so many stand before these
 --     bodyChecks s u pairs bs       8 in the coefficients of what is still to come, then 17 for extra bytes
 --     settling v st                 that state, or the one of the refusal
+--     wholeBytes k len              the bytes of the whole pairs among so many
 --     sumAfter s u bs               the sum after the whole pairs in bytes
 --     pairsAfter s u pairs bs       whole pairs are added up, and the rest is held
 --     headerAfter bs                as soon as the header is complete its checks are made
---     unusedCause, residueCause, blankCause, idleCause, refusalCause, headingCause, addingCause, stateCause
+--     heldMost, unusedCause, residueCause, blankCause, idleCause, refusalCause, headingCause, addingCause, settledCause, causeAt, stateCause
 --                                   12 Record: a state that is not coherent
---     takenBy st piece              what take makes of a state: one that is not coherent stays as it is
+--     takenAt, takenBy st piece     what take makes of a state: one that is not coherent stays as it is
 --     addingLine r pairs            17 for an early end, or the sums
---     lineOf st                     the line that finish writes: refused 12 0 for a state that is not coherent
+--     lineAt, lineOf st             the line that finish writes: refused 12 0 for a state that is not coherent
+--     finishChecks line len         10: a buffer of len bytes is lent for the line
 --     Starts, Takes, Finishes       the promises of start, take, finish; start-once, take-once, finish-once: each allows one result only
 use Prim.Native.Nat.{ℕ, _+_, _-_, _*_, _/_}
 use mathlib.Core.Path.{_≡_, sym, _∙_}

@@ -3,6 +3,7 @@
 --     Fits s u pairs bs            bytes that no check refuses: no more than are to come, with all coefficients below p
 --     checks-fit                   what no check refuses fits
 --     pairs-step                   whole pairs that fit are added up, and then the other bytes are taken
+--     back-short, pairs-left       of bytes that fit less than a pair is left, and the record has room for the whole pairs
 --     front-feedable, front-sum    of bytes that fit the whole pairs can be fed, and that adds up all
 --     held-fits, adding-next       after bytes that fit, what is held fits too, and there is a coherent record with room for the pairs to come
 --     pairs-on, checks-stay        bytes after others: they are taken after what is held of those; after a refusal nothing changes
@@ -37,7 +38,7 @@ use Rattle.jobs.specs.Jobs.{pairBytes, coefficientsIn}
 use Rattle.jobs.specs.States.{room, indexCheck, bodyChecks, wholeBytes, sumAfter, adding, settled, settling, pairsAfter}
 use Rattle.jobs.specs.Adding.{Adding, Feedable}
 use Rattle.jobs.specs.ByteLaws.{length-coefficientsIn}
-use Rattle.jobs.specs.AddingLaws.{below-parts, share, pairs-even, coefficients-join, sum-join, sum-none, sum-total, sum-coherent}
+use Rattle.jobs.specs.AddingLaws.{k-some, below-parts, share, pairs-even, coefficients-join, sum-join, sum-none, sum-total, sum-coherent}
 
 -- whether pairs are added up at a stage
 abbrev pub adds : Stage → Bool
@@ -104,9 +105,6 @@ module _ (s : Setting) (u : Sum) (pairs : ℕ) (a : Adding s u pairs) where
   p-some : 0 < s .p
   p-some = omega (arith, bounds s (a .coherent .accepted) .range .choice .p-low)
 
-  k-some : 1 ≤ s .k
-  k-some = bounds s (a .coherent .accepted) .range .choice .k-low
-
   pub checks-fit : (bs : List ℕ) → bodyChecks s u pairs bs ≡ fine → Fits s u pairs bs
   unfolding bodyChecks
   checks-fit bs e =
@@ -124,7 +122,7 @@ module _ (s : Setting) (u : Sum) (pairs : ℕ) (a : Adding s u pairs) where
     v = sumAfter s u xs
 
     total : v .total ≡ u .total + m
-    total = sum-total s u k-some xs ∙ rw (h, mul-div-cancel m {n = pairBytes (s .k)} (omega (arith, k-some)))
+    total = sum-total s u (k-some s u (a .coherent)) xs ∙ rw (h, mul-div-cancel m {n = pairBytes (s .k)} (omega (arith, (k-some s u (a .coherent)))))
 
     rooms : room s u pairs ≡ length xs + room s v pairs
     rooms = rw h (room-less (pairBytes (s .k)) m (u .total) (v .total) pairs total fits)
@@ -151,11 +149,11 @@ module _ (s : Setting) (u : Sum) (pairs : ℕ) (a : Adding s u pairs) where
 
     whole : wholeBytes (s .k) (length (xs ++ ys)) ≡ length xs + wholeBytes (s .k) (length ys)
     whole =
-        rw (length-append xs ys, h, share (pairBytes (s .k)) m (length ys) (omega (arith, k-some))) (add-mul m (length ys / pairBytes (s .k)) (pairBytes (s .k)))
+        rw (length-append xs ys, h, share (pairBytes (s .k)) m (length ys) (omega (arith, (k-some s u (a .coherent))))) (add-mul m (length ys / pairBytes (s .k)) (pairBytes (s .k)))
 
     pub pairs-step : pairsAfter s u pairs (xs ++ ys) ≡ pairsAfter s v pairs ys
     unfolding pairsAfter
-    pairs-step = rw (checks-step, sum-join s u k-some m xs ys h, whole, drop-append-add xs ys (wholeBytes (s .k) (length ys)))
+    pairs-step = rw (checks-step, sum-join s u (k-some s u (a .coherent)) m xs ys h, whole, drop-append-add xs ys (wholeBytes (s .k) (length ys)))
 
   -- ---- bytes that fit, and then others
 
@@ -176,7 +174,7 @@ module _ (s : Setting) (u : Sum) (pairs : ℕ) (a : Adding s u pairs) where
     both-parts = take-append-drop (wholeBytes (s .k) (length bs)) bs
 
     some-rest : length bs % pairBytes (s .k) < pairBytes (s .k)
-    some-rest = mod-lt (length bs) (omega (arith, k-some))
+    some-rest = mod-lt (length bs) (omega (arith, (k-some s u (a .coherent))))
 
     pub back-short : length back < pairBytes (s .k)
     back-short = rw (length-drop (wholeBytes (s .k) (length bs)) bs) (omega (arith, div-add-mod' (length bs) (pairBytes (s .k)), some-rest))
@@ -194,16 +192,16 @@ module _ (s : Setting) (u : Sum) (pairs : ℕ) (a : Adding s u pairs) where
         omega (arith, fewer few, a .added)
       where
         fewer : m2 * pairBytes (s .k) ≤ (pairs - u .total) * pairBytes (s .k) → m2 ≤ pairs - u .total
-        fewer l = le-of-mul-le-mul-right l (omega (arith, k-some))
+        fewer l = le-of-mul-le-mul-right l (omega (arith, (k-some s u (a .coherent))))
 
     pub front-sum : sumAfter s u front ≡ sumAfter s u bs
-    front-sum = sym (ap (sumAfter s u) (sym both-parts) ∙ sum-join s u k-some m2 front back front-size ∙ sum-none s (sumAfter s u front) k-some back back-short)
+    front-sum = sym (ap (sumAfter s u) (sym both-parts) ∙ sum-join s u (k-some s u (a .coherent)) m2 front back front-size ∙ sum-none s (sumAfter s u front) (k-some s u (a .coherent)) back back-short)
 
     pub front-feedable : Feedable s u front
     front-feedable = record {
       coherent = a .coherent;
       whole = rw front-size (mul-mod-left m2 (pairBytes (s .k)));
-      room = rw (front-size, mul-div-cancel m2 {n = pairBytes (s .k)} (omega (arith, k-some))) (omega (arith, pairs-left, a .most));
+      room = rw (front-size, mul-div-cancel m2 {n = pairBytes (s .k)} (omega (arith, (k-some s u (a .coherent))))) (omega (arith, pairs-left, a .most));
       below = parts-below .0;
     }
 
@@ -215,8 +213,8 @@ module _ (s : Setting) (u : Sum) (pairs : ℕ) (a : Adding s u pairs) where
 
     pub adding-next : Adding s (sumAfter s u bs) pairs
     adding-next = record {
-      coherent = sum-coherent s u k-some bs (a .coherent) (f .below) (omega (arith, pairs-left, a .most));
-      added = rw (sum-total s u k-some bs) pairs-left;
+      coherent = sum-coherent s u (k-some s u (a .coherent)) bs (a .coherent) (f .below) (omega (arith, pairs-left, a .most));
+      added = rw (sum-total s u (k-some s u (a .coherent)) bs) pairs-left;
       most = a .most;
     }
 
@@ -278,7 +276,7 @@ module _ (s : Setting) (u : Sum) (pairs : ℕ) (a : Adding s u pairs) where
   module _ (bs ys : List ℕ) (size : length bs ≡ pairBytes (s .k)) (next : State) (is : next ≡ pairsAfter s u pairs bs) where
     none-back : Fits s u pairs bs → drop (wholeBytes (s .k) (length bs)) bs ≡ []
     none-back f =
-        let b-some : 0 < pairBytes (s .k) = omega (arith, k-some) in
+        let b-some : 0 < pairBytes (s .k) = omega (arith, (k-some s u (a .coherent))) in
         let all : wholeBytes (s .k) (length bs) ≡ length bs = rw size (ap (λ (n : ℕ). n * pairBytes (s .k)) (div-self b-some) ∙ one-mul (pairBytes (s .k))) in
         rw all (drop-length bs)
 

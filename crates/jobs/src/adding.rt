@@ -3,7 +3,6 @@ ghost use mathlib.Core.Path.{_≡_};
 ghost use mathlib.Core.Bool.{false};
 ghost use mathlib.Core.List.{_++_};
 ghost use Prim.Native.Nat.{_+_, _-_, _*_, _^_, _≤_};
-ghost use lib.ListN.{length};
 ghost use Rattle.packed.specs.Limits.{mostCoefficients, mostPairs};
 ghost use Rattle.packed.specs.Running.{recordOf};
 ghost use Rattle.jobs.specs.Jobs.{pairBytes};
@@ -19,9 +18,7 @@ use crate::state::Stage;
 use crate::state::State;
 use packed::refusals;
 use packed::running::Record;
-use packed::running::Sum;
 use packed::running::feed;
-use packed::setting::Setting;
 
 // The open pair is made whole first, if there is enough for it.
 pub fn take_pairs(state: State, piece: &[u8]) -> State

@@ -2,7 +2,8 @@
 --     digits n             how many decimal digits n takes: the fewest that hold it, and one for 0
 --     decimal n            these digits in ASCII, the highest first: no leading zeros, and 0 is `0`
 --     isDigit c            a byte from `0` to `9`
---     numbersIn cs         the numbers that stand in a text: each run of digits, read in decimal
+--     reading, numbersIn cs
+--                          the numbers that stand in a text: each run of digits, read in decimal
 --     digits-some          there is a digit
 --     digits-most, digits-enough
 --                          n is below 10^w, for w from 1 on, exactly where it takes at most w digits

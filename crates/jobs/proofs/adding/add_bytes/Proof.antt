@@ -16,7 +16,6 @@ use Rattle.polynomials.specs.Indices.{upto}
 use Rattle.polynomials.specs.Lists.{coefficient}
 use Rattle.packed.specs.Answers.{fine}
 use Rattle.packed.specs.Coefficients.{firstBad}
-use Rattle.packed.specs.Bounds.{bounds}
 use Rattle.packed.specs.Running.{recordOf}
 use Rattle.packed.specs.declared.setting.Setting.{Setting}
 use Rattle.packed.specs.declared.running.Sum.{Sum}
@@ -25,6 +24,7 @@ use Rattle.jobs.specs.Jobs.{coefficientsIn}
 use Rattle.jobs.specs.States.{heldBytes, room, bodyChecks, wholeBytes, sumAfter, settled, pairsAfter}
 use Rattle.jobs.specs.Adding.{Adding}
 use Rattle.jobs.specs.ByteLaws.{length-coefficientsIn}
+use Rattle.jobs.specs.AddingLaws.{k-some, k-few}
 use Rattle.jobs.specs.TakingLaws.{Fits, checks-fit, back-short, front-feedable, front-sum}
 use Rattle.jobs.specs.declared.state.Stage.the-variants as inStage
 use Rattle.jobs.proofs.adding.add_bytes.Statement.{statement}
@@ -33,12 +33,6 @@ use Rattle.jobs.proofs.adding.add_bytes.Tie as tie
 -- ---- on plain values
 
 module _ (s : Setting) (u : Sum) (pairs : ℕ) (a : Adding s u pairs) (bs : List ℕ) where
-  k-high : s .k ≤ 8
-  k-high = bounds s (a .coherent .accepted) .range .choice .k-high
-
-  k-low : 1 ≤ s .k
-  k-low = bounds s (a .coherent .accepted) .range .choice .k-low
-
   module _ (end bad : ℕ) (ends : end ≡ min (room s u pairs) (length bs)) (found : bad ≡ firstBad (s .p) (coefficientsIn (take end bs))) where
     abbrev cs : List ℕ
     cs = coefficientsIn (take (room s u pairs) bs)
@@ -94,7 +88,7 @@ sub-bytes-to-come : tie.Need-sub-bytes-to-come
 sub-bytes-to-come c = c .before .before .before .before .pre .added
 
 bytes-to-come-requires : tie.Need-bytes-to-come-requires
-bytes-to-come-requires c κs = (k-high (c .before .before .before .before .args .running .setting) (c .before .before .before .before .args .running .sum) (c .before .before .before .before .args .pairs) (c .before .before .before .before .pre) (now (c .before .before .before .before .args .bytes)), omega (arith, c .before .before .before .before .pre .most))
+bytes-to-come-requires c κs = (k-few (c .before .before .before .before .args .running .setting) (c .before .before .before .before .args .running .sum) (c .before .before .before .before .pre .coherent), omega (arith, c .before .before .before .before .pre .most))
 
 least-requires : tie.Need-least-requires
 least-requires c κs = search needs
@@ -106,7 +100,7 @@ first-bad-requires : tie.Need-first-bad-requires
 first-bad-requires c κs = search needs
 
 index-in-job-requires : tie.Need-index-in-job-requires
-index-in-job-requires c κs = (k-high (c .before .before .before .before .before .before .before .before .before .args .running .setting) (c .before .before .before .before .before .before .before .before .before .args .running .sum) (c .before .before .before .before .before .before .before .before .before .args .pairs) (c .before .before .before .before .before .before .before .before .before .pre) (now (c .before .before .before .before .before .before .before .before .before .args .bytes)), omega (arith, c .before .before .before .before .before .before .before .before .before .pre .added, c .before .before .before .before .before .before .before .before .before .pre .most), omega (arith, c .if1 .taken, ends-at (c .before), c .before .before .before .before .before .before .before .before .before .good .1 .1 .0 .1))
+index-in-job-requires c κs = (k-few (c .before .before .before .before .before .before .before .before .before .args .running .setting) (c .before .before .before .before .before .before .before .before .before .args .running .sum) (c .before .before .before .before .before .before .before .before .before .pre .coherent), omega (arith, c .before .before .before .before .before .before .before .before .before .pre .added, c .before .before .before .before .before .before .before .before .before .pre .most), omega (arith, c .if1 .taken, ends-at (c .before), c .before .before .before .before .before .before .before .before .before .good .1 .1 .0 .1))
 
 coefficient-requires : tie.Need-coefficient-requires
 coefficient-requires c κs = search needs
@@ -128,7 +122,7 @@ returns-2 c =
     (at-17 (c .before .before .before .before .before .before .before .before .before .before .before .args .running .setting) (c .before .before .before .before .before .before .before .before .before .before .before .args .running .sum) (c .before .before .before .before .before .before .before .before .before .before .before .args .pairs) (c .before .before .before .before .before .before .before .before .before .before .before .pre) (now (c .before .before .before .before .before .before .before .before .before .before .before .args .bytes)) (c .before .before .before .before .before .least .result) (c .before .before .before .first-bad .result) (ends-at (c .before .before .before)) (c .before .before .before .first-bad .ensures) (c .before .before .if1 .left) (rw (c .before .before .before .before .before .before .bytes-to-come .ensures) at (c .before .if2 .taken)))
 
 whole-bytes-requires : tie.Need-whole-bytes-requires
-whole-bytes-requires c κs = (k-low (c .before .before .before .before .before .before .before .before .before .before .args .running .setting) (c .before .before .before .before .before .before .before .before .before .before .args .running .sum) (c .before .before .before .before .before .before .before .before .before .before .args .pairs) (c .before .before .before .before .before .before .before .before .before .before .pre) (now (c .before .before .before .before .before .before .before .before .before .before .args .bytes)), k-high (c .before .before .before .before .before .before .before .before .before .before .args .running .setting) (c .before .before .before .before .before .before .before .before .before .before .args .running .sum) (c .before .before .before .before .before .before .before .before .before .before .args .pairs) (c .before .before .before .before .before .before .before .before .before .before .pre) (now (c .before .before .before .before .before .before .before .before .before .before .args .bytes)))
+whole-bytes-requires c κs = (k-some (c .before .before .before .before .before .before .before .before .before .before .args .running .setting) (c .before .before .before .before .before .before .before .before .before .before .args .running .sum) (c .before .before .before .before .before .before .before .before .before .before .pre .coherent), k-few (c .before .before .before .before .before .before .before .before .before .before .args .running .setting) (c .before .before .before .before .before .before .before .before .before .before .args .running .sum) (c .before .before .before .before .before .before .before .before .before .before .pre .coherent))
 
 -- nothing is refused: the bytes fit
 few-bytes : (c : tie.Else2) → length (now (c .before .before .before .before .before .before .before .before .before .before .args .bytes)) ≤ room (c .before .before .before .before .before .before .before .before .before .before .args .running .setting) (c .before .before .before .before .before .before .before .before .before .before .args .running .sum) (c .before .before .before .before .before .before .before .before .before .before .args .pairs)
@@ -155,7 +149,7 @@ slice-aggregate-joined c = search needs
 joined-requires : tie.Need-joined-requires
 joined-requires c κs =
     rw (rest-is (c .before .before .whole-bytes .result) (now (c .before .before .before .before .before .before .before .before .before .before .before .before .before .args .bytes)), c .before .before .whole-bytes .ensures)
-    (omega (arith, back-short (c .before .before .before .before .before .before .before .before .before .before .before .before .before .args .running .setting) (c .before .before .before .before .before .before .before .before .before .before .before .before .before .args .running .sum) (c .before .before .before .before .before .before .before .before .before .before .before .before .before .args .pairs) (c .before .before .before .before .before .before .before .before .before .before .before .before .before .pre) (now (c .before .before .before .before .before .before .before .before .before .before .before .before .before .args .bytes)) (fitting (c .before .before .before)), k-high (c .before .before .before .before .before .before .before .before .before .before .before .before .before .args .running .setting) (c .before .before .before .before .before .before .before .before .before .before .before .before .before .args .running .sum) (c .before .before .before .before .before .before .before .before .before .before .before .before .before .args .pairs) (c .before .before .before .before .before .before .before .before .before .before .before .before .before .pre) (now (c .before .before .before .before .before .before .before .before .before .before .before .before .before .args .bytes))))
+    (omega (arith, back-short (c .before .before .before .before .before .before .before .before .before .before .before .before .before .args .running .setting) (c .before .before .before .before .before .before .before .before .before .before .before .before .before .args .running .sum) (c .before .before .before .before .before .before .before .before .before .before .before .before .before .args .pairs) (c .before .before .before .before .before .before .before .before .before .before .before .before .before .pre) (now (c .before .before .before .before .before .before .before .before .before .before .before .before .before .args .bytes)) (fitting (c .before .before .before)), k-few (c .before .before .before .before .before .before .before .before .before .before .before .before .before .args .running .setting) (c .before .before .before .before .before .before .before .before .before .before .before .before .before .args .running .sum) (c .before .before .before .before .before .before .before .before .before .before .before .before .before .pre .coherent)))
 
 rest-size-requires : tie.Need-rest-size-requires
 rest-size-requires c κs = inside (c .before .before .before)

@@ -5,15 +5,16 @@ use lib.ListN.{length}
 use lib.Seq.{length-take-le}
 use denote.Ref.{now}
 use borrow.Author.Needs.{needs}
-use Rattle.jobs.specs.FeedLaws.{k-low, k-high, parting, fed-block}
+use Rattle.jobs.specs.AddingLaws.{k-some, k-few}
+use Rattle.jobs.specs.FeedLaws.{parting, fed-block}
 use Rattle.jobs.proofs.adding.feed_block.Statement.{statement}
 use Rattle.jobs.proofs.adding.feed_block.Tie as tie
 
 pair-bytes-requires : tie.Need-pair-bytes-requires
-pair-bytes-requires c κs = k-high (c .before .before .args .running .setting) (c .before .before .args .running .sum) (now (c .before .before .args .bytes)) (c .before .before .pre)
+pair-bytes-requires c κs = k-few (c .before .before .args .running .setting) (c .before .before .args .running .sum) (c .before .before .pre .feedable .coherent)
 
 div-m : tie.Need-div-m
-div-m c = rw (c .pair-bytes .ensures) (omega (arith, k-low (c .before .before .before .args .running .setting) (c .before .before .before .args .running .sum) (now (c .before .before .before .args .bytes)) (c .before .before .before .pre)))
+div-m c = rw (c .pair-bytes .ensures) (omega (arith, k-some (c .before .before .before .args .running .setting) (c .before .before .before .args .running .sum) (c .before .before .before .pre .feedable .coherent)))
 
 slice-aggregate-take-apart : tie.Need-slice-aggregate-take-apart
 slice-aggregate-take-apart c = search needs

@@ -5,7 +5,8 @@ use native.Mathlib.Omega.{arith}
 use lib.ListN.{length}
 use denote.Ref.{now}
 use borrow.Author.Needs.{needs}
-use Rattle.jobs.specs.FeedLaws.{FedSoFar, blockBytes, k-some, k-few, fed-none, fed-all, fed-block-fits, fed-more, some-more, block-bytes-most}
+use Rattle.jobs.specs.AddingLaws.{k-some, k-few}
+use Rattle.jobs.specs.FeedLaws.{FedSoFar, blockBytes, fed-none, fed-all, fed-block-fits, fed-more, some-more, block-bytes-most}
 use Rattle.jobs.proofs.adding.feed_bytes.Statement.{statement}
 use Rattle.jobs.proofs.adding.feed_bytes.Tie as tie
 
@@ -16,10 +17,10 @@ abbrev μ-loop : tie.MeasureT-loop
 μ-loop bytes most fed₀ i₀ fed i = length bytes - i
 
 div-most : tie.Need-div-most Inv-loop μ-loop
-div-most c = k-some (c .before .before .args .running .setting) (c .before .before .args .running .sum) (now (c .before .before .args .bytes)) (c .before .before .pre)
+div-most c = k-some (c .before .before .args .running .setting) (c .before .before .args .running .sum) (c .before .before .pre .coherent)
 
 pair-bytes-requires : tie.Need-pair-bytes-requires Inv-loop μ-loop
-pair-bytes-requires c κs = k-few (c .before .before .args .running .setting) (c .before .before .args .running .sum) (now (c .before .before .args .bytes)) (c .before .before .pre)
+pair-bytes-requires c κs = k-few (c .before .before .args .running .setting) (c .before .before .args .running .sum) (c .before .before .pre .coherent)
 
 mul-most : tie.Need-mul-most Inv-loop μ-loop
 mul-most c = rw (c .pair-bytes .ensures) (omega (arith, block-bytes-most (c .before .before .before .args .running .setting .k)))

@@ -10,10 +10,10 @@ use borrow.Author.Needs.{needs}
 use Rattle.polynomials.specs.Indices.{upto}
 use Rattle.polynomials.specs.IndexLaws.{length-upto}
 use Rattle.polynomials.specs.Lists.{coefficient}
-use Rattle.packed.specs.Bounds.{bounds}
 use Rattle.jobs.specs.Jobs.{pairBytes}
 use Rattle.jobs.specs.States.{heldBytes, heldIn, pairsAfter}
 use Rattle.jobs.specs.Adding.{Adding}
+use Rattle.jobs.specs.AddingLaws.{k-few}
 use Rattle.jobs.specs.CoherentLaws.{Waiting, adding-waits}
 use Rattle.jobs.specs.CompletingLaws.{Completing, held-size, first-size, begun-size, begun-fits, all-taken, complete, begun-back, begun-rest}
 use Rattle.jobs.specs.TakingLaws.{adds, came-adding, came-other}
@@ -66,16 +66,13 @@ module _ (st : State) (piece : List ℕ) (end : ℕ) (w : Waiting st) (f : Compl
 waits : (c : tie.After-s) → Waiting (c .before .before .before .before .args .state)
 waits c = adding-waits (c .before .before .before .before .args .state) (c .before .before .before .before .pre)
 
-k-high : (c : tie.After-s) → c .before .before .before .before .args .state .running .setting .k ≤ 8
-k-high c = bounds _ (waits c .adding .coherent .accepted) .range .choice .k-high
-
 first : (c : tie.After-least) → Completing (c .before .before .before .before .before .before .args .state) (now (c .before .before .before .before .before .before .args .piece)) (pairBytes (c .before .before .before .before .before .before .args .state .running .setting .k)) (c .least .result)
-first c = record { short = waits (c .before .before) .short; room = omega (arith, k-high (c .before .before)); array = search needs; most = rw (c .before .pair-bytes .ensures) at (c .least .ensures) }
+first c = record { short = waits (c .before .before) .short; room = omega (arith, k-few _ _ (waits (c .before .before) .adding .coherent)); array = search needs; most = rw (c .before .pair-bytes .ensures) at (c .least .ensures) }
 
 -- ---- the needs
 
 pair-bytes-requires : tie.Need-pair-bytes-requires
-pair-bytes-requires c κs = k-high c
+pair-bytes-requires c κs = k-few _ _ (waits c .adding .coherent)
 
 sub-least : tie.Need-sub-least
 sub-least c = rw (c .pair-bytes .ensures) (omega (arith, waits (c .before) .short))
