@@ -1,0 +1,174 @@
+-- Laws of labels. Assumes nothing.
+--     vanishes-exactly      the test for a polynomial that vanishes holds exactly where it is zero at each root
+--     label-words           a label is the data words, and then the check words
+--     label-put             the data words copied, and the check words put after them, make it
+--     label-length, label-below
+--                           so many words it has, all below 929
+--     written-passes        what is written passes
+--     one-word              a label that passes does not with one word changed
+use Prim.Native.Nat.{ℕ, _+_, _-_, _*_, _^_, _%_, _≤_, _<_}
+use mathlib.Core.Path.{_≡_, refl, sym, ap, _∙_}
+use mathlib.Core.Bool.{Bool, true, false, not, true≢false}
+use mathlib.Core.Logic.{_↔_}
+use mathlib.Core.List.{List, _++_, reverse, reverse-append, reverse-reverse, append-assoc}
+use native.Mathlib.Nat.{mod-eq-of-lt, zero-add, add-mul}
+use native.Mathlib.Decide.{decLt}
+use native.Mathlib.Omega.{arith}
+use lib.ListN.{length, replicate, set, take, drop, length-append, length-replicate, length-reverse, length-set, List·getD-append}
+use lib.Seq.{take-append-seam, drop-append-seam, drop-drop}
+use borrow.Author.Tests.{not-true}
+use Rattle.polynomials.specs.Indices.{filled, exceeds}
+use Rattle.polynomials.specs.IndexLaws.{upto-join, upto-same, exceeds-none}
+use Rattle.polynomials.specs.Lists.{coefficient, Below, product}
+use Rattle.polynomials.specs.ListLaws.{coefficients, lists-agree, coefficient-past, coefficient-after}
+use Rattle.polynomials.specs.Places.{packed, minus}
+use Rattle.divisions.specs.Divisions.{less, quotient, remainder}
+use Rattle.divisions.specs.Values.{value}
+use Rattle.divisions.specs.CongruenceLaws.{cancel-add, add-congruent, minus-zero, length-less, coefficient-less, less-below}
+use Rattle.divisions.specs.DivisionLaws.{remainder-length, multiple}
+use Rattle.divisions.specs.ReverseLaws.{reverse-below, packed-changed}
+use Rattle.divisions.specs.ValueLaws.{value-same, value-multiple, length-withRoots, roots-monic, roots-vanish}
+use Rattle.divisions.specs.PowerLaws.{power-cancels}
+use Rattle.labels.specs.Labels.{modulus, checkCount, root, cycle, generator, carried, label, valueAt, vanishing, Vanishes, passes}
+use Rattle.labels.specs.Working.{checkWords}
+use Rattle.labels.specs.CheckLaws.{count-low}
+use Rattle.labels.specs.RootLaws.{three-cycles}
+
+pub vanishes-exactly : (m : ℕ) (a : List ℕ) → (vanishing m a ≡ true) ↔ Vanishes m a
+unfolding vanishing
+vanishes-exactly m a = (
+  λ e. record {
+    each = λ j low high.
+        let before : j - 1 + 1 ≡ j = omega arith in
+        let at : valueAt a (j - 1 + 1) ≤ 0 = exceeds-none m (λ j. valueAt a (j + 1)) (λ j. 0) .0 (not-true (exceeds m (λ j. valueAt a (j + 1)) (λ j. 0)) e) (j - 1) (omega arith) in
+        let none : valueAt a (j - 1 + 1) ≡ 0 = omega (arith, at) in
+        rw before at none;
+  },
+  λ v. rw (exceeds-none m (λ j. valueAt a (j + 1)) (λ j. 0) .1 (λ j l. omega (arith, v .each (j + 1) (omega arith) (omega arith)))),
+)
+
+-- ---- what a label is
+
+-- what stands from x^m on is as it was, where r ends there
+module _ (p m : ℕ) (xs r : List ℕ) (size : length r ≡ m) (below : Below p xs) where
+  abbrev zeros : List ℕ
+  zeros = replicate m 0
+
+  length-zeros : length zeros ≡ m
+  length-zeros = length-replicate m 0
+
+  length-all : length (zeros ++ xs) ≡ m + length xs
+  length-all = length-append zeros xs ∙ rw length-zeros
+
+  at : (j : ℕ) → j < m + length xs → Dec (j < m) → coefficient (less p (zeros ++ xs) r) j ≡ coefficient (less p zeros r ++ xs) j
+  at j l (yes h) =
+      coefficient-less p (zeros ++ xs) r j (rw length-all l)
+      ∙ rw (List·getD-append zeros xs 0 j (rw length-zeros h)) (sym (List·getD-append (less p zeros r) xs 0 j (rw (length-less p zeros r, length-zeros) h) ∙ coefficient-less p zeros r j (rw length-zeros h)))
+  at j l (no h) =
+      coefficient-less p (zeros ++ xs) r j (rw length-all l)
+      ∙ rw (coefficient-past r j (rw size (omega arith)), coefficient-after zeros xs j (rw length-zeros (omega arith)), coefficient-after (less p zeros r) xs j (rw (length-less p zeros r, length-zeros) (omega arith)), length-less p zeros r)
+      (minus-zero p (coefficient xs (j - length zeros)) (below (j - length zeros)))
+
+  carried-less : less p (zeros ++ xs) r ≡ less p zeros r ++ xs
+  carried-less =
+      let size-left : length (less p (zeros ++ xs) r) ≡ m + length xs = length-less p (zeros ++ xs) r ∙ length-all in
+      let size-right : length (less p zeros r ++ xs) ≡ m + length xs = length-append (less p zeros r) xs ∙ rw (length-less p zeros r, length-zeros) in
+      lists-agree (less p (zeros ++ xs) r) (less p zeros r ++ xs) (size-left ∙ sym size-right) (λ j l. at j (rw size-left at l) (decLt j m))
+
+length-rest : (m : ℕ) (a : List ℕ) → length (remainder modulus (generator m) a) ≡ m
+length-rest m a = remainder-length modulus (generator m) a ∙ rw (length-withRoots modulus root m) (omega arith)
+
+pub label-words : (s : ℕ) (content : List ℕ) → Below modulus content → label s content ≡ content ++ checkWords (checkCount s) content
+unfolding label checkWords
+label-words s content below =
+    let m : ℕ = checkCount s in
+    let r : List ℕ = remainder modulus (generator m) (carried m content) in
+    rw (carried-less modulus m (reverse content) r (length-rest m (carried m content)) (reverse-below modulus content below), reverse-append (less modulus (replicate m 0) r) (reverse content), reverse-reverse content)
+
+pub check-length : (m : ℕ) (content : List ℕ) → length (checkWords m content) ≡ m
+unfolding checkWords
+check-length m content =
+    let r : List ℕ = remainder modulus (generator m) (carried m content) in
+    length-reverse (less modulus (replicate m 0) r) ∙ length-less modulus (replicate m 0) r ∙ length-replicate m 0
+
+length-carried : (m : ℕ) (content : List ℕ) → length (carried m content) ≡ m + length content
+length-carried m content = length-append (replicate m 0) (reverse content) ∙ rw (length-replicate, length-reverse)
+
+pub label-length : (s : ℕ) (content : List ℕ) → length (label s content) ≡ length content + checkCount s
+unfolding label
+label-length s content =
+    let a : List ℕ = carried (checkCount s) content in
+    let r : List ℕ = remainder modulus (generator (checkCount s)) a in
+    length-reverse (less modulus a r) ∙ length-less modulus a r ∙ length-carried (checkCount s) content ∙ omega arith
+
+pub label-below : (s : ℕ) (content : List ℕ) → Below modulus (label s content)
+unfolding label
+label-below s content =
+    let a : List ℕ = carried (checkCount s) content in
+    let r : List ℕ = remainder modulus (generator (checkCount s)) a in
+    reverse-below modulus (less modulus a r) (less-below modulus a r (omega arith))
+
+-- the data words are copied, and the check words are put after them
+pub label-put : (s : ℕ) (content old copied checks : List ℕ) → Below modulus content → copied ≡ filled (length content) (coefficient content) old → checks ≡ checkWords (checkCount s) content
+    → take (length content) copied ++ (checks ++ drop (checkCount s) (drop (length content) copied)) ≡ label s content ++ drop (length (label s content)) old
+label-put s content old copied checks below e f =
+    let d : ℕ = length content in
+    let after : List ℕ = drop d old in
+    let whole : copied ≡ content ++ after = e ∙ rw (coefficients content) in
+    let far : drop (checkCount s) after ≡ drop (d + checkCount s) old = drop-drop (checkCount s) d old in
+    rw (whole, take-append-seam content after, drop-append-seam content after, far, f, label-length s content, label-words s content below) (sym (append-assoc content (checkWords (checkCount s) content) (drop (d + checkCount s) old)))
+
+-- ---- what is written passes
+
+pub written-passes : (s : ℕ) (content : List ℕ) → passes s (label s content) ≡ true
+unfolding label
+written-passes s content =
+    let m : ℕ = checkCount s in
+    let a : List ℕ = carried m content in
+    let g : List ℕ = generator m in
+    let l : List ℕ = less modulus a (remainder modulus g a) in
+    let at : (j : ℕ) → 1 ≤ j → j ≤ m → valueAt l j ≡ 0 = λ j low high.
+    value-same modulus (root j) l (product (quotient modulus g a) g) (multiple modulus m g a (omega arith) (roots-monic modulus root m (omega arith)) (rw (length-carried m content) (omega arith)))
+    ∙ value-multiple modulus (root j) (quotient modulus g a) g (roots-vanish modulus root m j (omega arith) low high) in
+    rw (reverse-reverse l) (vanishes-exactly m l .1 (record { each = at }))
+
+-- ---- one word changed
+
+nothing-added : (x y : ℕ) → x % modulus ≡ 0 → (x + y) % modulus ≡ y % modulus
+nothing-added x y h = add-congruent modulus x 0 y y h refl ∙ rw zero-add
+
+-- two multiples of a power of 3 below 929 times it, one larger: they differ modulo 929
+differ : (c d e : ℕ) → d < c → c < modulus → c * 3 ^ e % modulus ≡ d * 3 ^ e % modulus → ⊥
+differ c d e larger below same =
+    let whole : c - d + d ≡ c = omega arith in
+    let split : c * 3 ^ e ≡ (c - d) * 3 ^ e + d * 3 ^ e = rw whole at (add-mul (c - d) d (3 ^ e)) in
+    let none : (c - d) * 3 ^ e % modulus ≡ 0 = cancel-add modulus ((c - d) * 3 ^ e) 0 (d * 3 ^ e) (omega arith) (rw (← split, zero-add) same) in
+    let zero-is : (c - d) % modulus ≡ 0 = power-cancels modulus 3 cycle (c - d) e (omega arith) (omega arith) three-cycles none in
+    let is : (c - d) % modulus ≡ c - d = mod-eq-of-lt (omega arith) in
+    omega arith
+
+module _ (s : ℕ) (words : List ℕ) (i v : ℕ) (below : Below modulus words) (inside : i < length words) (low : v < modulus) (other : v ≡ coefficient words i → ⊥) where
+  abbrev place : ℕ
+  place = length words - 1 - i
+
+  -- both at the root 3
+  same-value : passes s words ≡ true → passes s (set words i v) ≡ true → coefficient words i * 3 ^ place % modulus ≡ v * 3 ^ place % modulus
+  same-value e f =
+      let count : 1 ≤ checkCount s = omega (arith, count-low s) in
+      let x : ℕ = packed (root 1) (reverse words) in
+      let y : ℕ = packed (root 1) (reverse (set words i v)) in
+      let first : x % modulus ≡ 0 = vanishes-exactly (checkCount s) (reverse words) .0 e .each 1 (omega arith) count in
+      let second : y % modulus ≡ 0 = vanishes-exactly (checkCount s) (reverse (set words i v)) .0 f .each 1 (omega arith) count in
+      sym (nothing-added y (coefficient words i * 3 ^ place) second) ∙ ap (λ (n : ℕ). n % modulus) (packed-changed (root 1) words i v inside) ∙ nothing-added x (v * 3 ^ place) first
+
+  apart : (w : ℕ) → w < modulus → (v ≡ w → ⊥) → w * 3 ^ place % modulus ≡ v * 3 ^ place % modulus → Dec (v < w) → Dec (w < v) → ⊥
+  apart w h ne same (yes l) d = differ w v place l h same
+  apart w h ne same (no l) (yes g) = differ v w place g low (sym same)
+  apart w h ne same (no l) (no g) = ne (omega arith)
+
+  pub one-word : passes s words ≡ true → passes s (set words i v) ≡ false
+  one-word e = go (passes s (set words i v)) refl
+    where
+      go : (t : Bool) → passes s (set words i v) ≡ t → t ≡ false
+      go true f = absurd (apart (coefficient words i) (below i) other (same-value e f) (decLt v (coefficient words i)) (decLt (coefficient words i) v))
+      go false f = refl

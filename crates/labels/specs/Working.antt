@@ -1,0 +1,49 @@
+-- What the workers of write and check ask of each other. Definitions only.
+--     CheckRoom content out     out has a place for each of the check words
+--     checkWords m content      the check words: zero less the remainder, highest power first
+--     timesRoot j g             g times (x - 3^j), modulo 929
+--     Divisor g part            a divisor, and as many coefficients of what it divides
+--     Dividing g a              a divisor, and what it divides
+--     Polynomial a              the coefficients of a label's polynomial
+--     powerAt j i               power i of 3^j, modulo 929
+use Prim.Native.Nat.{ℕ, _+_, _*_, _≤_, _<_}
+use mathlib.Core.Path.{_≡_}
+use mathlib.Core.List.{List, reverse}
+use lib.ListN.{length, replicate}
+use Rattle.polynomials.specs.Lists.{product, residues, Below}
+use Rattle.divisions.specs.Divisions.{degree, less, remainder}
+use Rattle.divisions.specs.Values.{linear}
+use Rattle.labels.specs.Labels.{modulus, mostWords, mostChecks, root, power, generator, carried}
+
+pub record CheckRoom (content out : List ℕ) : Type 0 where
+  pub below : Below modulus content
+  pub places : length out ≤ mostChecks
+  pub few : length content + length out ≤ mostWords
+
+unfoldable pub checkWords : ℕ → List ℕ → List ℕ
+checkWords m content = reverse (less modulus (replicate m 0) (remainder modulus (generator m) (carried m content)))
+
+abbrev pub timesRoot : ℕ → List ℕ → List ℕ
+timesRoot j g = residues modulus (product g (linear modulus (root j)))
+
+pub record Divisor (g part : List ℕ) : Type 0 where
+  pub some : 0 < length g
+  pub few : length g ≤ mostChecks + 1
+  pub same-size : length part ≡ length g
+  pub below : Below modulus g
+  pub part-below : Below modulus part
+
+pub record Dividing (g a : List ℕ) : Type 0 where
+  pub some : 0 < length g
+  pub few : length g ≤ mostChecks + 1
+  pub longer : degree g ≤ length a
+  pub few-words : length a ≤ mostWords
+  pub below : Below modulus g
+  pub part-below : Below modulus a
+
+pub record Polynomial (a : List ℕ) : Type 0 where
+  pub below : Below modulus a
+  pub few : length a ≤ mostWords
+
+abbrev pub powerAt : ℕ → ℕ → ℕ
+powerAt j i = power (j * i)
