@@ -3,8 +3,10 @@
 --     add-congruent                        congruences may be added
 --     minus-zero, minus-residue            nothing taken off; what is taken off counts modulo p only
 --     same-sym, same-trans                 one polynomial modulo p: either way round, and on to a third
+--     residues-below                       residues are below p
 --     length-less, coefficient-less, less-below
 --                                          a difference: its length, its coefficients, and that they are below p
+--     less-residues                        of what is taken away only the residues count
 --     less-adds                            what was taken off, added again, gives the first list modulo p
 --     product-sum-left                     the product of a sum is the sum of the products
 --     weights-congruent                    in a sum of products each first factor counts modulo p only
@@ -20,10 +22,10 @@ use native.Mathlib.Omega.{arith}
 use lib.ListN.{length, replicate, length-append, length-replicate, List·getD-append}
 use lib.Seq.{getD-at}
 use Rattle.polynomials.specs.Indices.{sumTo}
-use Rattle.polynomials.specs.Lists.{coefficient, sum, product, Below}
+use Rattle.polynomials.specs.Lists.{coefficient, sum, product, residues, Below}
 use Rattle.polynomials.specs.Places.{packed, minus}
-use Rattle.polynomials.specs.IndexLaws.{length-upto, upto-at, upto-past, sum-zero, sum-part}
-use Rattle.polynomials.specs.ListLaws.{coefficient-past, coefficient-zeros, coefficient-sum, coefficient-product}
+use Rattle.polynomials.specs.IndexLaws.{length-upto, upto-same, upto-at, upto-past, sum-zero, sum-part}
+use Rattle.polynomials.specs.ListLaws.{coefficient-past, coefficient-zeros, coefficient-sum, coefficient-product, coefficient-residues}
 use Rattle.polynomials.specs.PlaceLaws.{packed-sum, packed-product, packed-same}
 use Rattle.polynomials.specs.ReductionLaws.{mul-mod, minus-below, minus-is, minus-only}
 use Rattle.divisions.specs.Divisions.{Same, term, less}
@@ -52,6 +54,9 @@ same-sym p a b s = record { each = λ j. sym (s .each j) }
 pub same-trans : (p : ℕ) (a b c : List ℕ) → Same p a b → Same p b c → Same p a c
 same-trans p a b c s t = record { each = λ j. s .each j ∙ t .each j }
 
+pub residues-below : (p : ℕ) (xs : List ℕ) → 0 < p → Below p (residues p xs)
+residues-below p xs h j = rw (coefficient-residues p xs j) (mod-lt (coefficient xs j) h)
+
 -- ---- differences
 
 pub length-less : (p : ℕ) (a b : List ℕ) → length (less p a b) ≡ length a
@@ -76,6 +81,11 @@ less-adds p a b h short j = go (decLt j (length a))
     go : Dec (j < length a) → (coefficient (less p a b) j + coefficient b j) % p ≡ coefficient a j % p
     go (yes l) = rw (coefficient-less p a b j l) (minus-is p (coefficient a j) (coefficient b j) h)
     go (no l) = rw (less-past p a b j (omega arith), coefficient-past b j (omega arith), coefficient-past a j (omega arith))
+
+pub less-residues : (p : ℕ) (a b : List ℕ) → less p a (residues p b) ≡ less p a b
+less-residues p a b =
+    upto-same (length a) (λ j. minus p (coefficient a j) (coefficient (residues p b) j)) (λ j. minus p (coefficient a j) (coefficient b j))
+    (λ j l. rw (coefficient-residues p b j) (minus-residue p (coefficient a j) (coefficient b j)))
 
 -- ---- products
 

@@ -1,6 +1,7 @@
 -- Laws of the division by a monic polynomial. Assumes nothing.
 --     divided-length                       the steps of a division keep the length
 --     remainder-length, remainder-below    the remainder has m coefficients, all below p
+--     divided-first                        of a list below p, the lowest m coefficients that the steps leave are the remainder
 --     divides                              a is the quotient times g and the remainder, modulo p
 --     multiple                             a less its remainder is the quotient times g: g divides it
 --     unique                               no other quotient and remainder of at most m coefficients do so, modulo p
@@ -13,7 +14,8 @@ use native.Mathlib.Nat.{add-zero, zero-add, add-comm, mul-zero, mul-one, mod-lt,
 use native.Mathlib.Decide.{decLt}
 use native.Mathlib.Numerals.{add-one}
 use native.Mathlib.Omega.{arith}
-use lib.ListN.{length, replicate, length-append, length-replicate}
+use lib.ListN.{length, replicate, take, length-append, length-replicate}
+use lib.Seq.{length-take-le, getD-take}
 use Rattle.polynomials.specs.Indices.{sumTo}
 use Rattle.polynomials.specs.Lists.{coefficient, sum, product, Below}
 use Rattle.polynomials.specs.Places.{packed}
@@ -21,7 +23,7 @@ use Rattle.polynomials.specs.IndexLaws.{length-upto, upto-at, upto-past, upto-m
 use Rattle.polynomials.specs.ListLaws.{lists-agree, coefficient-past, coefficient-sum, coefficient-product, length-product}
 use Rattle.polynomials.specs.PlaceLaws.{packed-sum, packed-product, packed-same, packed-snoc, packed-zeros}
 use Rattle.divisions.specs.Divisions.{Same, Monic, degree, term, less, cancelled, divided, quotients, quotient, remainder}
-use Rattle.divisions.specs.CongruenceLaws.{cancel-add, add-congruent, same-sym, same-trans, length-less, less-adds, product-sum-left, weights-congruent, same-product, length-term, term-product}
+use Rattle.divisions.specs.CongruenceLaws.{cancel-add, add-congruent, same-sym, same-trans, length-less, less-below, less-adds, product-sum-left, weights-congruent, same-product, length-term, term-product}
 
 -- ---- lengths
 
@@ -45,6 +47,27 @@ remainder-length p g a = length-upto (degree g) (λ j. coefficient (rest p g a) 
 
 pub remainder-below : (p : ℕ) (g a : List ℕ) → 0 < p → Below p (remainder p g a)
 remainder-below p g a h j = lt-of-le-of-lt (upto-most (degree g) (λ j. coefficient (rest p g a) j % p) j) (mod-lt (coefficient (rest p g a) j) h)
+
+divided-below : (p : ℕ) (g : List ℕ) (i : ℕ) (a : List ℕ) → 0 < p → Below p a → Below p (divided p g i a)
+unfolding divided
+divided-below p g zero a h b = b
+divided-below p g (suc i) a h b = divided-below p g i (cancelled p g i a) h (less-below p a (product (term (coefficient a (degree g + i)) i) g) h)
+
+pub divided-first : (p : ℕ) (g a : List ℕ) → 0 < p → Below p a → degree g ≤ length a → take (degree g) (divided p g (length a - degree g) a) ≡ remainder p g a
+divided-first p g a h b l =
+    lists-agree (take (degree g) (divided p g (length a - degree g) a)) (remainder p g a) (size ∙ sym (remainder-length p g a))
+    (λ j t. let low : j < degree g = rw size at t in at j low)
+  where
+    size : length (take (degree g) (divided p g (length a - degree g) a)) ≡ degree g
+    size = length-take-le (degree g) (divided p g (length a - degree g) a) (rw divided-length l)
+
+    at : (j : ℕ) → j < degree g → coefficient (take (degree g) (divided p g (length a - degree g) a)) j ≡ coefficient (remainder p g a) j
+    at j low =
+        getD-take (degree g) (divided p g (length a - degree g) a) j 0 low
+        ∙ sym (
+        upto-at (degree g) (λ j. coefficient (divided p g (length a - degree g) a) j % p) j low
+        ∙ mod-eq-of-lt (divided-below p g (length a - degree g) a h b j)
+        )
 
 -- ---- a step
 

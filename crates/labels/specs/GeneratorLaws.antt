@@ -21,7 +21,7 @@ use Rattle.packed.specs.declared.answers.Wrote.{Wrote}
 use Rattle.labels.specs.Labels.{modulus, mostChecks, root, power, generator}
 use Rattle.labels.specs.Working.{timesRoot}
 use Rattle.labels.specs.SettingLaws.{labelSetting}
-use Rattle.labels.specs.DivisionSteps.{product-words, multiplied}
+use Rattle.labels.specs.MultiplyLaws.{product-words, multiplied}
 
 -- ---- one root more
 

@@ -30,8 +30,9 @@ use Rattle.divisions.specs.ReverseLaws.{reverse-below, packed-changed}
 use Rattle.divisions.specs.ValueLaws.{value-same, value-multiple, length-withRoots, roots-monic, roots-vanish}
 use Rattle.divisions.specs.PowerLaws.{power-cancels}
 use Rattle.labels.specs.Labels.{modulus, checkCount, root, cycle, generator, carried, label, valueAt, vanishing, Vanishes, passes}
-use Rattle.labels.specs.Working.{checkWords}
+use Rattle.labels.specs.Working.{opposites, checkWords}
 use Rattle.labels.specs.CheckLaws.{count-low}
+use Rattle.labels.specs.CheckWordLaws.{length-carried}
 use Rattle.labels.specs.RootLaws.{three-cycles}
 
 pub vanishes-exactly : (m : ℕ) (a : List ℕ) → (vanishing m a ≡ true) ↔ Vanishes m a
@@ -69,8 +70,9 @@ module _ (p m : ℕ) (xs r : List ℕ) (size : length r ≡ m) (below : Below p 
       ∙ rw (coefficient-past r j (rw size (omega arith)), coefficient-after zeros xs j (rw length-zeros (omega arith)), coefficient-after (less p zeros r) xs j (rw (length-less p zeros r, length-zeros) (omega arith)), length-less p zeros r)
       (minus-zero p (coefficient xs (j - length zeros)) (below (j - length zeros)))
 
-  carried-less : less p (zeros ++ xs) r ≡ less p zeros r ++ xs
+  carried-less : less p (zeros ++ xs) r ≡ less p (replicate (length r) 0) r ++ xs
   carried-less =
+      rw size
       let size-left : length (less p (zeros ++ xs) r) ≡ m + length xs = length-less p (zeros ++ xs) r ∙ length-all in
       let size-right : length (less p zeros r ++ xs) ≡ m + length xs = length-append (less p zeros r) xs ∙ rw (length-less p zeros r, length-zeros) in
       lists-agree (less p (zeros ++ xs) r) (less p zeros r ++ xs) (size-left ∙ sym size-right) (λ j l. at j (rw size-left at l) (decLt j m))
@@ -83,16 +85,13 @@ unfolding label checkWords
 label-words s content below =
     let m : ℕ = checkCount s in
     let r : List ℕ = remainder modulus (generator m) (carried m content) in
-    rw (carried-less modulus m (reverse content) r (length-rest m (carried m content)) (reverse-below modulus content below), reverse-append (less modulus (replicate m 0) r) (reverse content), reverse-reverse content)
+    rw (carried-less modulus m (reverse content) r (length-rest m (carried m content)) (reverse-below modulus content below), reverse-append (opposites r) (reverse content), reverse-reverse content)
 
 pub check-length : (m : ℕ) (content : List ℕ) → length (checkWords m content) ≡ m
 unfolding checkWords
 check-length m content =
     let r : List ℕ = remainder modulus (generator m) (carried m content) in
-    length-reverse (less modulus (replicate m 0) r) ∙ length-less modulus (replicate m 0) r ∙ length-replicate m 0
-
-length-carried : (m : ℕ) (content : List ℕ) → length (carried m content) ≡ m + length content
-length-carried m content = length-append (replicate m 0) (reverse content) ∙ rw (length-replicate, length-reverse)
+    length-reverse (opposites r) ∙ length-less modulus (replicate (length r) 0) r ∙ length-replicate (length r) 0 ∙ length-rest m (carried m content)
 
 pub label-length : (s : ℕ) (content : List ℕ) → length (label s content) ≡ length content + checkCount s
 unfolding label

@@ -4,8 +4,10 @@ pub mod Working
 pub mod WordLaws
 pub mod CheckLaws
 pub mod SettingLaws
+pub mod MultiplyLaws
 pub mod DivisionSteps
 pub mod GeneratorLaws
+pub mod CheckWordLaws
 pub mod RootLaws
 pub mod LabelLaws
 pub mod Written

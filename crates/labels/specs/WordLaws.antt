@@ -1,22 +1,27 @@
 -- Laws of the loops over words. Assumes nothing.
 --     fromEnd xs j          word j from the end
 --     turned                a list filled with these is the list reversed
+--     oppositeFromEnd xs j  zero less that word, modulo 929
+--     turned-opposites      a list filled with these is that of the opposites, reversed
 --     lessAt old xs j       word j of old, less that of xs, modulo 929
 --     still-there           what a filling loop has not reached is as it was
 --     filled-all            a list that is filled to its end
 --     front-fits, front     the first words of a list that starts with them
-use Prim.Native.Nat.{ℕ, _-_, _≤_}
-use mathlib.Core.Path.{_≡_, refl, sym, _∙_}
-use mathlib.Core.List.{List, _++_, append-nil, reverse}
+use Prim.Native.Nat.{ℕ, _-_, _≤_, _<_}
+use mathlib.Core.Path.{_≡_, sym, ap, _∙_}
+use mathlib.Core.List.{List, [], _++_, append-nil, reverse}
 use native.Mathlib.Omega.{arith}
-use lib.ListN.{length, take, length-append}
+use lib.ListN.{length, take, replicate, length-append, length-replicate}
 use lib.Seq.{drop-length, take-append-seam}
 use Rattle.polynomials.specs.Indices.{upto, filled}
 use Rattle.polynomials.specs.Lists.{coefficient}
-use Rattle.polynomials.specs.ListLaws.{filled-after}
+use Rattle.polynomials.specs.IndexLaws.{upto-same}
+use Rattle.polynomials.specs.ListLaws.{filled-after, coefficient-zeros}
 use Rattle.polynomials.specs.Places.{minus}
+use Rattle.divisions.specs.CongruenceLaws.{length-less, coefficient-less}
 use Rattle.divisions.specs.ReverseLaws.{reverse-list}
 use Rattle.labels.specs.Labels.{modulus}
+use Rattle.labels.specs.Working.{opposites}
 
 abbrev pub fromEnd : List ℕ → ℕ → ℕ
 fromEnd xs j = coefficient xs (length xs - 1 - j)
@@ -34,6 +39,21 @@ pub turned : (xs old now : List ℕ) (i : ℕ) → length old ≡ length xs → 
 turned xs old now i size all e =
     let whole : i ≡ length old = all ∙ sym size in
     e ∙ rw whole (filled-all (fromEnd xs) old ∙ rw size (sym (reverse-list xs)))
+
+abbrev pub oppositeFromEnd : List ℕ → ℕ → ℕ
+oppositeFromEnd xs j = minus modulus 0 (fromEnd xs j)
+
+length-opposites : (xs : List ℕ) → length (opposites xs) ≡ length xs
+length-opposites xs = length-less modulus (replicate (length xs) 0) xs ∙ length-replicate (length xs) 0
+
+coefficient-opposites : (xs : List ℕ) (j : ℕ) → j < length xs → coefficient (opposites xs) j ≡ minus modulus 0 (coefficient xs j)
+coefficient-opposites xs j l = coefficient-less modulus (replicate (length xs) 0) xs j (rw length-replicate l) ∙ rw (coefficient-zeros [] (length xs) j)
+
+pub turned-opposites : (xs old now : List ℕ) (i : ℕ) → length old ≡ length xs → i ≡ length xs → now ≡ filled i (oppositeFromEnd xs) old → now ≡ reverse (opposites xs)
+turned-opposites xs old now i size all e =
+    let whole : i ≡ length old = all ∙ sym size in
+    let same : upto (length xs) (oppositeFromEnd xs) ≡ upto (length xs) (fromEnd (opposites xs)) = upto-same (length xs) (oppositeFromEnd xs) (fromEnd (opposites xs)) (λ j l. rw (length-opposites xs) (sym (coefficient-opposites xs (length xs - 1 - j) (omega arith)))) in
+    e ∙ rw whole (filled-all (oppositeFromEnd xs) old ∙ rw size (same ∙ sym (reverse-list (opposites xs) ∙ ap (λ (n : ℕ). upto n (fromEnd (opposites xs))) (length-opposites xs))))
 
 pub front-fits : (xs ys : List ℕ) (n : ℕ) → length xs ≡ n → n ≤ length (xs ++ ys)
 front-fits xs ys n size = simp length-append (omega arith)

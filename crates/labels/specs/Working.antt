@@ -1,6 +1,9 @@
 -- What the workers of write and check ask of each other. Definitions only.
 --     CheckRoom content out     out has a place for each of the check words
+--     opposites xs              zero less each word, modulo 929
 --     checkWords m content      the check words: zero less the remainder, highest power first
+--     CheckWork g content rest out
+--                               and there is the generator, and a list of zeros to divide in
 --     timesRoot j g             g times (x - 3^j), modulo 929
 --     Divisor g part            a divisor, and as many coefficients of what it divides
 --     Dividing g a              a divisor, and what it divides
@@ -20,8 +23,16 @@ pub record CheckRoom (content out : List ℕ) : Type 0 where
   pub places : length out ≤ mostChecks
   pub few : length content + length out ≤ mostWords
 
+abbrev pub opposites : List ℕ → List ℕ
+opposites xs = less modulus (replicate (length xs) 0) xs
+
 unfoldable pub checkWords : ℕ → List ℕ → List ℕ
-checkWords m content = reverse (less modulus (replicate m 0) (remainder modulus (generator m) (carried m content)))
+checkWords m content = reverse (opposites (remainder modulus (generator m) (carried m content)))
+
+pub record CheckWork (g content rest out : List ℕ) : Type 0 where
+  pub room : CheckRoom content out
+  pub divisor : g ≡ generator (length out)
+  pub zeros : rest ≡ replicate (length out + length content) 0
 
 abbrev pub timesRoot : ℕ → List ℕ → List ℕ
 timesRoot j g = residues modulus (product g (linear modulus (root j)))

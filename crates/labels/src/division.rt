@@ -6,16 +6,17 @@ ghost use lib.ListN.{length};
 ghost use Rattle.polynomials.specs.Lists.{coefficient, product};
 ghost use Rattle.divisions.specs.Divisions.{degree, less, divided};
 ghost use Rattle.labels.specs.Labels.{modulus};
-ghost use Rattle.labels.specs.Working.{Divisor, Dividing, CheckRoom, checkWords};
+ghost use Rattle.labels.specs.Working.{Divisor, Dividing, CheckRoom, CheckWork, checkWords};
 use crate::generator::make_generator;
 use crate::limits::MOST_CHECKS;
 use crate::limits::MOST_WORDS;
 use crate::setting::LABELS;
 use crate::words::subtract;
 use crate::words::turn;
+use crate::words::turn_opposites;
 use packed::products::product;
 
-// The check words of data words: zero less the remainder of data times x^m by the generator, highest power first, where out has m places.
+// The check words of data words, for as many as out has places.
 pub fn write_checks(content: &[u16], out: &mut [u16])
     requires { ⌜ CheckRoom (now content) (now out) ⌝ }
     ensures { λ r. ⌜ now (out .exit) ≡ checkWords (length (now (out .entry))) (now (content .entry)) ⌝ }
@@ -25,11 +26,18 @@ pub fn write_checks(content: &[u16], out: &mut [u16])
     let mut generator = [0u16; MOST_CHECKS + 1];
     make_generator(&mut generator[..m + 1]);
     let mut rest = [0u16; MOST_WORDS];
-    turn(content, &mut rest[m..n]);
-    divide(&generator[..m + 1], &mut rest[..n]);
-    let mut checks = [0u16; MOST_CHECKS];
-    subtract(&rest[..m], &mut checks[..m]);
-    turn(&checks[..m], out);
+    write_checks_in(&generator[..m + 1], content, &mut rest[..n], out);
+}
+
+// In a list of zeros that is lent for it: data times x^m is divided, and what makes the remainder zero is written, highest power first.
+fn write_checks_in(g: &[u16], content: &[u16], rest: &mut [u16], out: &mut [u16])
+    requires { ⌜ CheckWork (now g) (now content) (now rest) (now out) ⌝ }
+    ensures { λ r. ⌜ now (out .exit) ≡ checkWords (length (now (out .entry))) (now (content .entry)) ⌝ }
+{
+    let m = out.len();
+    turn(content, &mut rest[m..]);
+    divide(g, rest);
+    turn_opposites(&rest[..m], out);
 }
 
 // From the highest power down. What is left below the generator's highest power is the remainder.

@@ -8,6 +8,7 @@ ghost use Rattle.polynomials.specs.Lists.{coefficient, Below};
 ghost use Rattle.polynomials.specs.Places.{minus};
 ghost use Rattle.divisions.specs.Divisions.{less};
 ghost use Rattle.labels.specs.Labels.{modulus};
+ghost use Rattle.labels.specs.Working.{opposites};
 
 // (x - y) modulo 929.
 pub fn take_away(x: u16, y: u16) -> u16
@@ -41,6 +42,19 @@ pub fn turn(xs: &[u16], out: &mut [u16])
     let mut i = 0;
     while i < n {
         out[i] = xs[n - 1 - i];
+        i += 1;
+    }
+}
+
+// Zero less each word, modulo 929, the last word first.
+pub fn turn_opposites(xs: &[u16], out: &mut [u16])
+    requires { ⌜ (length (now out) ≡ length (now xs)) × Below modulus (now xs) ⌝ }
+    ensures { λ r. ⌜ now (out .exit) ≡ reverse (opposites (now (xs .entry))) ⌝ }
+{
+    let n = xs.len();
+    let mut i = 0;
+    while i < n {
+        out[i] = take_away(0, xs[n - 1 - i]);
         i += 1;
     }
 }
