@@ -8,18 +8,17 @@
 --                                 check gives 19, 20, 21; and where it gives none of them, 8 is left
 --     Readable, read-passed       what holds where check refuses nothing
 --     read-pass                   and there it refuses nothing
-use Prim.Native.Nat.{ℕ, suc, _+_, _^_, _≤_, _<_}
+use Prim.Native.Nat.{ℕ, _+_, _≤_, _<_}
 use mathlib.Core.Path.{_≡_, refl, _∙_}
 use mathlib.Core.Bool.{Bool, true, false}
 use mathlib.Core.List.{List, []}
-use native.Mathlib.Nat.{pow-suc}
 use native.Mathlib.Omega.{arith}
 use lib.Dec.{ltb}
 use lib.ListN.{length}
 use lib.Pow.{pow-mono}
 use borrow.Author.Tests.{lt-ltb, le-ltb, le-leb, lt-leb, ltb-true, ltb-false, leb-false}
 use Rattle.polynomials.specs.Lists.{Below}
-use Rattle.packed.specs.Answers.{Verdict, refused, fine, refuse, _andThen_}
+use Rattle.packed.specs.Answers.{refused, fine, refuse, _andThen_}
 use Rattle.packed.specs.AnswerLaws.{passed, passed-first, passed-last}
 use Rattle.packed.specs.SharedAnswers.{shortCause}
 use Rattle.packed.specs.Coefficients.{firstBad, coefficientCheck, coefficientsCheck, coefficient-check}

@@ -8,8 +8,8 @@
 --     left-long             what is left has m words or more
 --     rest-below, check-words
 --                           the first m of what is left are below 929, and zero less these, turned, are the check words
-use Prim.Native.Nat.{ℕ, suc, _+_, _-_, _≤_, _<_}
-use mathlib.Core.Path.{_≡_, sym, ap, _∙_}
+use Prim.Native.Nat.{ℕ, suc, _+_, _-_, _≤_}
+use mathlib.Core.Path.{_≡_, ap, _∙_}
 use mathlib.Core.List.{List, [], _++_, reverse, append-nil}
 use native.Mathlib.Omega.{arith}
 use lib.ListN.{length, replicate, take, drop, length-append, length-replicate, length-reverse, replicate-append-replicate, drop-of-length-le}
@@ -21,7 +21,7 @@ use Rattle.divisions.specs.DivisionLaws.{divided-length, divided-first, remaind
 use Rattle.divisions.specs.ReverseLaws.{reverse-below}
 use Rattle.divisions.specs.ValueLaws.{length-withRoots, roots-below}
 use Rattle.labels.specs.Labels.{modulus, root, generator, carried}
-use Rattle.labels.specs.Working.{CheckRoom, CheckWork, Dividing, opposites, checkWords}
+use Rattle.labels.specs.Working.{CheckWork, Dividing, opposites, checkWords}
 
 abbrev zeros : ℕ → List ℕ
 zeros n = replicate n 0

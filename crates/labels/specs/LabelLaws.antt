@@ -8,22 +8,21 @@
 --     one-word              a label that passes does not with one word changed
 use Prim.Native.Nat.{ℕ, _+_, _-_, _*_, _^_, _%_, _≤_, _<_}
 use mathlib.Core.Path.{_≡_, refl, sym, ap, _∙_}
-use mathlib.Core.Bool.{Bool, true, false, not, true≢false}
+use mathlib.Core.Bool.{Bool, true, false}
 use mathlib.Core.Logic.{_↔_}
 use mathlib.Core.List.{List, _++_, reverse, reverse-append, reverse-reverse, append-assoc}
 use native.Mathlib.Nat.{mod-eq-of-lt, zero-add, add-mul}
 use native.Mathlib.Decide.{decLt}
 use native.Mathlib.Omega.{arith}
-use lib.ListN.{length, replicate, set, take, drop, length-append, length-replicate, length-reverse, length-set, List·getD-append}
+use lib.ListN.{length, replicate, set, take, drop, length-append, length-replicate, length-reverse, List·getD-append}
 use lib.Seq.{take-append-seam, drop-append-seam, drop-drop}
 use borrow.Author.Tests.{not-true}
 use Rattle.polynomials.specs.Indices.{filled, exceeds}
-use Rattle.polynomials.specs.IndexLaws.{upto-join, upto-same, exceeds-none}
+use Rattle.polynomials.specs.IndexLaws.{exceeds-none}
 use Rattle.polynomials.specs.Lists.{coefficient, Below, product}
 use Rattle.polynomials.specs.ListLaws.{coefficients, lists-agree, coefficient-past, coefficient-after}
-use Rattle.polynomials.specs.Places.{packed, minus}
+use Rattle.polynomials.specs.Places.{packed}
 use Rattle.divisions.specs.Divisions.{less, quotient, remainder}
-use Rattle.divisions.specs.Values.{value}
 use Rattle.divisions.specs.CongruenceLaws.{cancel-add, add-congruent, minus-zero, length-less, coefficient-less, less-below}
 use Rattle.divisions.specs.DivisionLaws.{remainder-length, multiple}
 use Rattle.divisions.specs.ReverseLaws.{reverse-below, packed-changed}

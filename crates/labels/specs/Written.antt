@@ -4,13 +4,13 @@
 --     changed-read      a label that passes, with one word changed: check answers that it fails
 use Prim.Native.Nat.{ℕ, zero, suc, _<_}
 use mathlib.Core.Path.{_≡_, sym, ap, _∙_}
-use mathlib.Core.Bool.{Bool, true, false}
+use mathlib.Core.Bool.{true}
 use mathlib.Core.List.{List, [], _∷_}
 use native.Mathlib.Omega.{arith}
 use lib.ListN.{length, set, take, length-set}
 use lib.Seq.{take-append-seam}
 use Rattle.polynomials.specs.Lists.{coefficient, Below}
-use Rattle.packed.specs.Answers.{answered, fine, _andThen_}
+use Rattle.packed.specs.Answers.{answered, fine}
 use Rattle.packed.specs.AnswerLaws.{passed-first, wrote-left}
 use Rattle.packed.specs.declared.answers.Wrote.the-variants.{Count}
 use Rattle.labels.specs.declared.Passing.{Passing}

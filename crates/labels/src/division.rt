@@ -1,6 +1,6 @@
 // Division by the generator, by the schoolbook.
 ghost use mathlib.Core.Path.{_≡_};
-ghost use mathlib.Core.List.{List, [], _∷_, reverse};
+ghost use mathlib.Core.List.{[], _∷_};
 ghost use Prim.Native.Nat.{_-_};
 ghost use lib.ListN.{length};
 ghost use Rattle.polynomials.specs.Lists.{coefficient, product};

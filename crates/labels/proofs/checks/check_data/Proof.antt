@@ -3,11 +3,10 @@ use Prim.Native.Nat.{_+_, _≤_, _<_}
 use mathlib.Core.Path.{_≡_, _∙_, sym, ap}
 use native.Mathlib.Nat.{pos-of-ne-zero}
 use native.Mathlib.Omega.{arith}
-use borrow.Author.Tests.{lt-ltb, le-ltb}
 use lib.ListN.{length}
 use denote.Ref.{now}
 use borrow.Author.Needs.{needs}
-use Rattle.packed.specs.Answers.{refused, fine}
+use Rattle.packed.specs.Answers.{fine}
 use Rattle.packed.specs.Settings.{checkedSays}
 use Rattle.packed.specs.Coefficients.{coefficientCheck}
 use Rattle.labels.specs.Labels.{modulus, highestLevel, mostWords, checkCount}

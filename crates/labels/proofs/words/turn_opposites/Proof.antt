@@ -33,10 +33,7 @@ shared-slice-read-take-away : tie.Need-shared-slice-read-take-away Inv-loop μ-l
 shared-slice-read-take-away c = search needs
 
 take-away-requires : tie.Need-take-away-requires Inv-loop μ-loop
-take-away-requires c κs =
-    let a = c .before .before .before .before .before .args in
-    let below = c .before .before .before .before .before .pre .1 (length (now (a .xs)) - 1 - c .before .before .loop .i) in
-    (omega (arith, below), omega (arith, below))
+take-away-requires c κs = (omega arith, c .before .before .before .before .before .pre .1 _)
 
 mul-out : tie.Need-mul-out Inv-loop μ-loop
 mul-out c = search needs
