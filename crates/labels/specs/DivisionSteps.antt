@@ -59,17 +59,17 @@ abbrev pub replaced : ℕ → ℕ → List ℕ → List ℕ → List ℕ
 replaced i end xs ys = take i xs ++ (ys ++ drop (end - i) (drop i xs))
 
 module _ (i end : ℕ) (xs ys : List ℕ) (order : i ≤ end) (within : end ≤ length xs) (size : length ys ≡ end - i) where
-  front : length (take i xs) ≡ i
-  front = length-take-le i xs (omega arith)
+  before-size : length (take i xs) ≡ i
+  before-size = length-take-le i xs (omega arith)
 
   length-replaced : length (replaced i end xs ys) ≡ length xs
-  length-replaced = simp (length-append, front, size, length-drop) (omega arith)
+  length-replaced = simp (length-append, before-size, size, length-drop) (omega arith)
 
   replaced-before : (j : ℕ) → j < i → coefficient (replaced i end xs ys) j ≡ coefficient xs j
-  replaced-before j h = List·getD-append (take i xs) (ys ++ drop (end - i) (drop i xs)) 0 j (rw front h) ∙ getD-take i xs j 0 h
+  replaced-before j h = List·getD-append (take i xs) (ys ++ drop (end - i) (drop i xs)) 0 j (rw before-size h) ∙ getD-take i xs j 0 h
 
   replaced-after : (j : ℕ) → i ≤ j → coefficient (replaced i end xs ys) j ≡ coefficient (ys ++ drop (end - i) (drop i xs)) (j - i)
-  replaced-after j h = coefficient-after (take i xs) (ys ++ drop (end - i) (drop i xs)) j (rw front h) ∙ rw front
+  replaced-after j h = coefficient-after (take i xs) (ys ++ drop (end - i) (drop i xs)) j (rw before-size h) ∙ rw before-size
 
   replaced-inside : (j : ℕ) → i ≤ j → j < end → coefficient (replaced i end xs ys) j ≡ coefficient ys (j - i)
   replaced-inside j h l = replaced-after j h ∙ List·getD-append ys (drop (end - i) (drop i xs)) 0 (j - i) (rw size (omega arith))

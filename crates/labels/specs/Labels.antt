@@ -1,13 +1,14 @@
--- "Label check words": stacked labels to ISO/IEC 15438 (PDF417), words modulo 929.
+-- "Label check words": stacked labels to ISO/IEC 15438 (PDF417), words modulo 929. Words stand highest power first, and a list of coefficients
+-- has that of x^0 first: a label's polynomial is the label reversed.
 --     modulus, highestLevel, mostWords      929; levels are 0 to 8; a label has at most 928 words
 --     checkCount s                          2^(s+1), the check words at level s; mostChecks, those at the highest
 --     root j                                3^j; the generator's roots are those from j = 1 on
 --     power j                               3^j modulo 929; cycle, how many there are before 1 comes again
 --     generator m                           the product of (x - 3^j), j from 1 to m
---     carried m content                     the data words times x^m: they stand highest power first, as words do on a label, and a list of coefficients has that of x^0 first
---     label s content                       data times x^m, m the level's number of check words, less the remainder by the generator, highest power first
+--     carried m content                     the data words' polynomial times x^m
+--     label s content                       data times x^m, less the remainder by the generator, highest power first; m is the level's number of check words
 --     valueAt a j                           the polynomial a at the root 3^j, modulo 929
---     vanishing m a                         it is zero at each root 3^j, j from 1 to m; Vanishes m a, in words: LabelLaws shows that they agree
+--     Vanishes m a                          it is zero at each root 3^j, j from 1 to m; vanishing m a, as a test: vanishes-exactly in LabelLaws shows that they agree
 --     passes s words                        a label passes: its polynomial vanishes at each root
 --     levelCause, fewCause, manyCause       19 Level: above 8; 20 Few: no data words, to check at most m words; 21 Many: more than 928 words in all
 --     writeChecks s content len             19, 20, 21, 8, 10: a list of len words is lent for the label

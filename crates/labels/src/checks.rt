@@ -63,5 +63,5 @@ pub fn check_words(level: u64, words: &[u16]) -> Checked
 fn check_each(words: &[u16]) -> Checked
     ensures { λ r. ⌜ checkedSays r ≡ coefficientCheck modulus (now (words .entry)) ⌝ }
 {
-    check_coefficients(MODULUS, words, &words[..0])
+    check_coefficients(MODULUS as u64, words, &words[..0])
 }

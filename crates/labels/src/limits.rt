@@ -1,5 +1,5 @@
 // The limits of labels. Each stands here once.
-pub const MODULUS: u64 = 929;
+pub const MODULUS: u16 = 929;
 
 pub const HIGHEST_LEVEL: u64 = 8;
 

@@ -1,4 +1,4 @@
-// The powers of 3 modulo 929, whose roots the check words are made for.
+// The powers of 3 modulo 929: the roots of the generator, and the powers of a root.
 ghost use mathlib.Core.Path.{_≡_};
 ghost use Prim.Native.Nat.{_-_, _<_, _≤_};
 ghost use lib.ListN.{length};
@@ -9,7 +9,7 @@ ghost use Rattle.labels.specs.Working.{powerAt};
 // How many there are before 1 comes again.
 const CYCLE: usize = 928;
 
-const POWERS: [u16; 928] = [
+const POWERS: [u16; CYCLE] = [
     1,
     3,
     9,

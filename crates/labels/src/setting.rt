@@ -1,9 +1,11 @@
 // The setting in which labels are worked: one coefficient to a word, and a batch that no label passes.
+use crate::limits::MODULUS;
+use crate::limits::MOST_WORDS;
 use packed::setting::Setting;
 
 pub const LABELS: Setting = Setting {
-    p: 929,
+    p: MODULUS as u64,
     k: 1,
     t: 30,
-    n: 928,
+    n: MOST_WORDS as u64,
 };

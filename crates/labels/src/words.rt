@@ -9,6 +9,7 @@ ghost use Rattle.polynomials.specs.Places.{minus};
 ghost use Rattle.divisions.specs.Divisions.{less};
 ghost use Rattle.labels.specs.Labels.{modulus};
 ghost use Rattle.labels.specs.Working.{opposites};
+use crate::limits::MODULUS;
 
 // (x - y) modulo 929.
 pub fn take_away(x: u16, y: u16) -> u16
@@ -16,7 +17,7 @@ pub fn take_away(x: u16, y: u16) -> u16
     ensures { λ r. ⌜ r ≡ minus modulus x y ⌝ }
 {
     if x < y {
-        return x + 929 - y;
+        return x + MODULUS - y;
     }
     x - y
 }

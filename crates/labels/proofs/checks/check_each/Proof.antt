@@ -7,6 +7,9 @@ use Rattle.labels.specs.CheckLaws.{one-list}
 use Rattle.labels.proofs.checks.check_each.Statement.{statement}
 use Rattle.labels.proofs.checks.check_each.Tie as tie
 
+cast-check-coefficients : tie.Need-cast-check-coefficients
+cast-check-coefficients c = search needs
+
 slice-aggregate-check-coefficients : tie.Need-slice-aggregate-check-coefficients
 slice-aggregate-check-coefficients c = search needs
 
@@ -18,4 +21,4 @@ returns c = c .check-coefficients .ensures ∙ one-list modulus (now (c .before 
 
 pub check-each-spec : {M : Type 1} → statement M
 check-each-spec =
-    tie.close (tie.spec slice-aggregate-check-coefficients check-coefficients-requires returns)
+    tie.close (tie.spec cast-check-coefficients slice-aggregate-check-coefficients check-coefficients-requires returns)
