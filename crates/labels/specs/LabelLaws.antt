@@ -1,9 +1,11 @@
 -- Laws of labels. Assumes nothing.
 --     vanishes-exactly      the test for a polynomial that vanishes holds exactly where it is zero at each root
 --     label-words           a label is the data words, and then the check words
+--     check-length          m check words
 --     label-put             the data words copied, and the check words put after them, make it
 --     label-length, label-below
 --                           so many words it has, all below 929
+--     label-multiple        the label's polynomial is a multiple of the generator
 --     written-passes        what is written passes
 --     one-word              a label that passes does not with one word changed
 use Prim.Native.Nat.{ℕ, _+_, _-_, _*_, _^_, _%_, _≤_, _<_}
@@ -22,7 +24,7 @@ use Rattle.polynomials.specs.IndexLaws.{exceeds-none}
 use Rattle.polynomials.specs.Lists.{coefficient, Below, product}
 use Rattle.polynomials.specs.ListLaws.{coefficients, lists-agree, coefficient-past, coefficient-after}
 use Rattle.polynomials.specs.Places.{packed}
-use Rattle.divisions.specs.Divisions.{less, quotient, remainder}
+use Rattle.divisions.specs.Divisions.{Same, less, quotient, remainder}
 use Rattle.divisions.specs.CongruenceLaws.{cancel-add, add-congruent, minus-zero, length-less, coefficient-less, less-below}
 use Rattle.divisions.specs.DivisionLaws.{remainder-length, multiple}
 use Rattle.divisions.specs.ReverseLaws.{reverse-below, packed-changed}
@@ -30,6 +32,7 @@ use Rattle.divisions.specs.ValueLaws.{value-same, value-multiple, length-withRo
 use Rattle.divisions.specs.PowerLaws.{power-cancels}
 use Rattle.labels.specs.Labels.{modulus, checkCount, root, cycle, generator, carried, label, valueAt, vanishing, Vanishes, passes}
 use Rattle.labels.specs.Working.{opposites, checkWords}
+use Rattle.labels.specs.WordLaws.{length-opposites}
 use Rattle.labels.specs.CheckLaws.{count-low}
 use Rattle.labels.specs.CheckWordLaws.{length-carried}
 use Rattle.labels.specs.RootLaws.{three-cycles}
@@ -90,7 +93,7 @@ pub check-length : (m : ℕ) (content : List ℕ) → length (checkWords m conte
 unfolding checkWords
 check-length m content =
     let r : List ℕ = remainder modulus (generator m) (carried m content) in
-    length-reverse (opposites r) ∙ length-less modulus (replicate (length r) 0) r ∙ length-replicate (length r) 0 ∙ length-rest m (carried m content)
+    length-reverse (opposites r) ∙ length-opposites r ∙ length-rest m (carried m content)
 
 pub label-length : (s : ℕ) (content : List ℕ) → length (label s content) ≡ length content + checkCount s
 unfolding label
@@ -118,17 +121,22 @@ label-put s content old copied checks below e f =
 
 -- ---- what is written passes
 
-pub written-passes : (s : ℕ) (content : List ℕ) → passes s (label s content) ≡ true
+pub label-multiple : (s : ℕ) (content : List ℕ)
+    → Same modulus (reverse (label s content)) (product (quotient modulus (generator (checkCount s)) (carried (checkCount s) content)) (generator (checkCount s)))
 unfolding label
-written-passes s content =
+label-multiple s content =
     let m : ℕ = checkCount s in
     let a : List ℕ = carried m content in
+    rw (reverse-reverse (less modulus a (remainder modulus (generator m) a)))
+    (multiple modulus m (generator m) a (omega arith) (roots-monic modulus root m (omega arith)) (rw (length-carried m content) (omega arith)))
+
+pub written-passes : (s : ℕ) (content : List ℕ) → passes s (label s content) ≡ true
+written-passes s content =
+    let m : ℕ = checkCount s in
     let g : List ℕ = generator m in
-    let l : List ℕ = less modulus a (remainder modulus g a) in
-    let at : (j : ℕ) → 1 ≤ j → j ≤ m → valueAt l j ≡ 0 = λ j low high.
-    value-same modulus (root j) l (product (quotient modulus g a) g) (multiple modulus m g a (omega arith) (roots-monic modulus root m (omega arith)) (rw (length-carried m content) (omega arith)))
-    ∙ value-multiple modulus (root j) (quotient modulus g a) g (roots-vanish modulus root m j (omega arith) low high) in
-    rw (reverse-reverse l) (vanishes-exactly m l .1 (record { each = at }))
+    let q : List ℕ = quotient modulus g (carried m content) in
+    vanishes-exactly m (reverse (label s content)) .1
+    (record { each = λ j low high. value-same modulus (root j) (reverse (label s content)) (product q g) (label-multiple s content) ∙ value-multiple modulus (root j) q g (roots-vanish modulus root m j (omega arith) low high) })
 
 -- ---- one word changed
 

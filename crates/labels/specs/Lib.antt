@@ -10,5 +10,6 @@ pub mod GeneratorLaws
 pub mod CheckWordLaws
 pub mod RootLaws
 pub mod LabelLaws
+pub mod OnlyLaws
 pub mod Written
 pub mod Examples

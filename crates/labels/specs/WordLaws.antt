@@ -2,6 +2,7 @@
 --     fromEnd xs j          word j from the end
 --     turned                a list filled with these is the list reversed
 --     oppositeFromEnd xs j  zero less that word, modulo 929
+--     length-opposites      as many opposites as words
 --     turned-opposites      a list filled with these is that of the opposites, reversed
 --     lessAt old xs j       word j of old, less that of xs, modulo 929
 --     still-there           what a filling loop has not reached is as it was
@@ -43,7 +44,7 @@ turned xs old now i size all e =
 abbrev pub oppositeFromEnd : List ℕ → ℕ → ℕ
 oppositeFromEnd xs j = minus modulus 0 (fromEnd xs j)
 
-length-opposites : (xs : List ℕ) → length (opposites xs) ≡ length xs
+pub length-opposites : (xs : List ℕ) → length (opposites xs) ≡ length xs
 length-opposites xs = length-less modulus (replicate (length xs) 0) xs ∙ length-replicate (length xs) 0
 
 coefficient-opposites : (xs : List ℕ) (j : ℕ) → j < length xs → coefficient (opposites xs) j ≡ minus modulus 0 (coefficient xs j)
