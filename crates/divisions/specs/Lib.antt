@@ -2,8 +2,10 @@
 pub mod Divisions
 pub mod Values
 pub mod Powers
+pub mod Differences
 pub mod CongruenceLaws
 pub mod DivisionLaws
 pub mod ReverseLaws
 pub mod ValueLaws
 pub mod PowerLaws
+pub mod IndependenceLaws

@@ -2,21 +2,18 @@
 --     coefficient-reverse   place j of a reversed list is place j of the list, counted from its end
 --     reverse-list          a reversed list by these
 --     reverse-below         a list below c, reversed, is below c
---     packed-changed        what a change of one place makes of the packed number of a reversed list
-use Prim.Native.Nat.{ℕ, zero, suc, _+_, _-_, _*_, _^_, _<_}
+use Prim.Native.Nat.{ℕ, suc, _+_, _-_, _<_}
 use mathlib.Core.Path.{_≡_, sym, _∙_}
 use mathlib.Core.List.{List, [], _∷_, _++_, reverse, reverse-cons}
-use native.Mathlib.Nat.{not-suc-le-zero, le-of-suc-le-suc}
+use native.Mathlib.Nat.{not-suc-le-zero}
 use native.Mathlib.Decide.{decLt}
 use native.Mathlib.Omega.{arith}
-use lib.ListN.{length, set, length-set, length-reverse, List·getD-append}
+use lib.ListN.{length, length-reverse, List·getD-append}
 use lib.Seq.{getD-at}
 use Rattle.polynomials.specs.Indices.{upto}
 use Rattle.polynomials.specs.Lists.{coefficient, Below}
-use Rattle.polynomials.specs.Places.{packed}
 use Rattle.polynomials.specs.IndexLaws.{length-upto, upto-at}
 use Rattle.polynomials.specs.ListLaws.{lists-agree, coefficient-past}
-use Rattle.polynomials.specs.PlaceLaws.{packed-snoc}
 
 pub coefficient-reverse : (xs : List ℕ) (j : ℕ) → j < length xs → coefficient (reverse xs) j ≡ coefficient xs (length xs - 1 - j)
 coefficient-reverse [] j h = absurd (not-suc-le-zero h)
@@ -45,17 +42,3 @@ reverse-below c xs h j = go (decLt j (length xs))
     go (no l) =
         let past : coefficient (reverse xs) j ≡ 0 = coefficient-past (reverse xs) j (rw length-reverse (omega arith)) in
         omega (arith, h j)
-
--- the first of a list is the highest place of it reversed
-packed-first : (x y : ℕ) (ys : List ℕ) → packed x (reverse (y ∷ ys)) ≡ packed x (reverse ys) + y * x ^ length ys
-packed-first x y ys = rw (reverse-cons y ys, packed-snoc x (reverse ys) y, length-reverse)
-
-pub packed-changed : (x : ℕ) (xs : List ℕ) (i v : ℕ) → i < length xs
-    → packed x (reverse (set xs i v)) + coefficient xs i * x ^ (length xs - 1 - i) ≡ packed x (reverse xs) + v * x ^ (length xs - 1 - i)
-packed-changed x [] i v h = absurd (not-suc-le-zero h)
-packed-changed x (y ∷ ys) zero v h =
-    let there : suc (length ys) - 1 - 0 ≡ length ys = omega arith in
-    rw (there, packed-first x v ys, packed-first x y ys) (omega arith)
-packed-changed x (y ∷ ys) (suc i) v h =
-    let there : suc (length ys) - 1 - suc i ≡ length ys - 1 - i = omega arith in
-    rw (there, packed-first x y (set ys i v), packed-first x y ys, length-set) (omega (arith, packed-changed x ys i v (le-of-suc-le-suc h)))

@@ -7,35 +7,29 @@
 --                           so many words it has, all below 929
 --     label-multiple        the label's polynomial is a multiple of the generator
 --     written-passes        what is written passes
---     one-word              a label that passes does not with one word changed
-use Prim.Native.Nat.{ℕ, _+_, _-_, _*_, _^_, _%_, _≤_, _<_}
-use mathlib.Core.Path.{_≡_, refl, sym, ap, _∙_}
-use mathlib.Core.Bool.{Bool, true, false}
+use Prim.Native.Nat.{ℕ, _+_, _-_, _≤_, _<_}
+use mathlib.Core.Path.{_≡_, sym, _∙_}
+use mathlib.Core.Bool.{true}
 use mathlib.Core.Logic.{_↔_}
 use mathlib.Core.List.{List, _++_, reverse, reverse-append, reverse-reverse, append-assoc}
-use native.Mathlib.Nat.{mod-eq-of-lt, zero-add, add-mul}
 use native.Mathlib.Decide.{decLt}
 use native.Mathlib.Omega.{arith}
-use lib.ListN.{length, replicate, set, take, drop, length-append, length-replicate, length-reverse, List·getD-append}
+use lib.ListN.{length, replicate, take, drop, length-append, length-replicate, length-reverse, List·getD-append}
 use lib.Seq.{take-append-seam, drop-append-seam, drop-drop}
 use borrow.Author.Tests.{not-true}
 use Rattle.polynomials.specs.Indices.{filled, exceeds}
 use Rattle.polynomials.specs.IndexLaws.{exceeds-none}
 use Rattle.polynomials.specs.Lists.{coefficient, Below, product}
 use Rattle.polynomials.specs.ListLaws.{coefficients, lists-agree, coefficient-past, coefficient-after}
-use Rattle.polynomials.specs.Places.{packed}
 use Rattle.divisions.specs.Divisions.{Same, less, quotient, remainder}
-use Rattle.divisions.specs.CongruenceLaws.{cancel-add, add-congruent, minus-zero, length-less, coefficient-less, less-below}
+use Rattle.divisions.specs.CongruenceLaws.{minus-zero, length-less, coefficient-less, less-below}
 use Rattle.divisions.specs.DivisionLaws.{remainder-length, multiple}
-use Rattle.divisions.specs.ReverseLaws.{reverse-below, packed-changed}
+use Rattle.divisions.specs.ReverseLaws.{reverse-below}
 use Rattle.divisions.specs.ValueLaws.{value-same, value-multiple, length-withRoots, roots-monic, roots-vanish}
-use Rattle.divisions.specs.PowerLaws.{power-cancels}
-use Rattle.labels.specs.Labels.{modulus, checkCount, root, cycle, generator, carried, label, valueAt, vanishing, Vanishes, passes}
+use Rattle.labels.specs.Labels.{modulus, checkCount, root, generator, carried, label, valueAt, vanishing, Vanishes, passes}
 use Rattle.labels.specs.Working.{opposites, checkWords}
 use Rattle.labels.specs.WordLaws.{length-opposites}
-use Rattle.labels.specs.CheckLaws.{count-low}
 use Rattle.labels.specs.CheckWordLaws.{length-carried}
-use Rattle.labels.specs.RootLaws.{three-cycles}
 
 pub vanishes-exactly : (m : ℕ) (a : List ℕ) → (vanishing m a ≡ true) ↔ Vanishes m a
 unfolding vanishing
@@ -137,44 +131,3 @@ written-passes s content =
     let q : List ℕ = quotient modulus g (carried m content) in
     vanishes-exactly m (reverse (label s content)) .1
     (record { each = λ j low high. value-same modulus (root j) (reverse (label s content)) (product q g) (label-multiple s content) ∙ value-multiple modulus (root j) q g (roots-vanish modulus root m j (omega arith) low high) })
-
--- ---- one word changed
-
-nothing-added : (x y : ℕ) → x % modulus ≡ 0 → (x + y) % modulus ≡ y % modulus
-nothing-added x y h = add-congruent modulus x 0 y y h refl ∙ rw zero-add
-
--- two multiples of a power of 3 below 929 times it, one larger: they differ modulo 929
-differ : (c d e : ℕ) → d < c → c < modulus → c * 3 ^ e % modulus ≡ d * 3 ^ e % modulus → ⊥
-differ c d e larger below same =
-    let whole : c - d + d ≡ c = omega arith in
-    let split : c * 3 ^ e ≡ (c - d) * 3 ^ e + d * 3 ^ e = rw whole at (add-mul (c - d) d (3 ^ e)) in
-    let none : (c - d) * 3 ^ e % modulus ≡ 0 = cancel-add modulus ((c - d) * 3 ^ e) 0 (d * 3 ^ e) (omega arith) (rw (← split, zero-add) same) in
-    let zero-is : (c - d) % modulus ≡ 0 = power-cancels modulus 3 cycle (c - d) e (omega arith) (omega arith) three-cycles none in
-    let is : (c - d) % modulus ≡ c - d = mod-eq-of-lt (omega arith) in
-    omega arith
-
-module _ (s : ℕ) (words : List ℕ) (i v : ℕ) (below : Below modulus words) (inside : i < length words) (low : v < modulus) (other : v ≡ coefficient words i → ⊥) where
-  abbrev place : ℕ
-  place = length words - 1 - i
-
-  -- both at the root 3
-  same-value : passes s words ≡ true → passes s (set words i v) ≡ true → coefficient words i * 3 ^ place % modulus ≡ v * 3 ^ place % modulus
-  same-value e f =
-      let count : 1 ≤ checkCount s = omega (arith, count-low s) in
-      let x : ℕ = packed (root 1) (reverse words) in
-      let y : ℕ = packed (root 1) (reverse (set words i v)) in
-      let first : x % modulus ≡ 0 = vanishes-exactly (checkCount s) (reverse words) .0 e .each 1 (omega arith) count in
-      let second : y % modulus ≡ 0 = vanishes-exactly (checkCount s) (reverse (set words i v)) .0 f .each 1 (omega arith) count in
-      sym (nothing-added y (coefficient words i * 3 ^ place) second) ∙ ap (λ (n : ℕ). n % modulus) (packed-changed (root 1) words i v inside) ∙ nothing-added x (v * 3 ^ place) first
-
-  apart : (w : ℕ) → w < modulus → (v ≡ w → ⊥) → w * 3 ^ place % modulus ≡ v * 3 ^ place % modulus → Dec (v < w) → Dec (w < v) → ⊥
-  apart w h ne same (yes l) d = differ w v place l h same
-  apart w h ne same (no l) (yes g) = differ v w place g low (sym same)
-  apart w h ne same (no l) (no g) = ne (omega arith)
-
-  pub one-word : passes s words ≡ true → passes s (set words i v) ≡ false
-  one-word e = go (passes s (set words i v)) refl
-    where
-      go : (t : Bool) → passes s (set words i v) ≡ t → t ≡ false
-      go true f = absurd (apart (coefficient words i) (below i) other (same-value e f) (decLt v (coefficient words i)) (decLt (coefficient words i) v))
-      go false f = refl

@@ -11,5 +11,6 @@ pub mod CheckWordLaws
 pub mod RootLaws
 pub mod LabelLaws
 pub mod OnlyLaws
+pub mod DistanceLaws
 pub mod Written
 pub mod Examples

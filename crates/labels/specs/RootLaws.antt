@@ -1,5 +1,8 @@
 -- Laws of the powers of 3 modulo 929, and of a polynomial's value at one of them. Assumes nothing.
 --     lent-room, lent-filled  the first n of a list are lent and filled: there are as many still, and they are what they were filled with
+--     table-at, table-size, table-below
+--                             the table of powers: its entries, how many they are, and that they are below 929
+--     table-is                a list of 928 numbers that passes the test of such a table is it
 --     three-cycles            3^928 is 1 modulo 929
 --     exponent-next           the exponent of the next power, kept below 928
 --     exponent-power          a power of 3 by such an exponent is the power that is asked for
@@ -10,11 +13,13 @@ use mathlib.Core.Bool.{false}
 use mathlib.Core.List.{List, [], _∷_, _++_, append-nil}
 use native.Mathlib.Nat.{lt-of-le-of-lt, mod-lt, mod-mod, mul-comm, add-zero, zero-mul, div-one, mod-one}
 use native.Mathlib.Omega.{arith}
+use lib.Dec.{T}
 use lib.ListN.{length, take, drop}
 use lib.Seq.{length-take-le}
 use Rattle.polynomials.specs.Indices.{upto, sumTo}
 use Rattle.polynomials.specs.IndexLaws.{length-upto, upto-at, upto-most, sum-same}
 use Rattle.polynomials.specs.Lists.{coefficient, Below, sumOfProducts}
+use Rattle.polynomials.specs.ListLaws.{lists-agree}
 use Rattle.polynomials.specs.Places.{packed}
 use Rattle.polynomials.specs.PlaceLaws.{packed-sumOfProducts, power-power}
 use Rattle.polynomials.specs.Blocks.{block}
@@ -22,7 +27,8 @@ use Rattle.polynomials.specs.BlockLaws.{words-of-pairs}
 use Rattle.polynomials.specs.Pairs.{pairsOf}
 use Rattle.divisions.specs.CongruenceLaws.{weights-congruent}
 use Rattle.divisions.specs.ValueLaws.{packed-sum-of}
-use Rattle.divisions.specs.PowerLaws.{power-again}
+use Rattle.divisions.specs.Powers.{allPowers}
+use Rattle.divisions.specs.PowerLaws.{powers-at, power-again}
 use Rattle.packed.specs.Answers.{refuses}
 use Rattle.packed.specs.Coefficients.{taken-below}
 use Rattle.packed.specs.Feeding.{Feeding}
@@ -34,7 +40,7 @@ use Rattle.packed.specs.declared.running.Begun.{Begun}
 use Rattle.packed.specs.declared.running.Fed.{Fed}
 use Rattle.packed.specs.declared.running.Closed.{Closed}
 use Rattle.labels.specs.Labels.{modulus, mostChecks, cycle, root, power, valueAt}
-use Rattle.labels.specs.Working.{Polynomial, powerAt}
+use Rattle.labels.specs.Working.{powersOfThree, Polynomial, powerAt}
 use Rattle.labels.specs.WordLaws.{front-fits, front}
 use Rattle.labels.specs.SettingLaws.{labelSetting, label-setting-fine}
 
@@ -50,6 +56,24 @@ module _ (n : ℕ) (f : ℕ → ℕ) (old now : List ℕ) (few : n ≤ length ol
   pub lent-filled : take n (now ++ drop n old) ≡ upto n f
   lent-filled = front now (drop n old) n made-size ∙ made ∙ rw (length-take-le n old few)
 
+-- ---- the table
+
+pub table-at : (e : ℕ) → e < cycle → coefficient powersOfThree e ≡ power e
+unfolding powersOfThree
+table-at e h = upto-at cycle power e h
+
+pub table-size : length powersOfThree ≡ cycle
+unfolding powersOfThree
+table-size = length-upto cycle power
+
+pub table-below : Below modulus powersOfThree
+unfolding powersOfThree
+table-below j = lt-of-le-of-lt (upto-most cycle power j) (mod-lt (root j) (omega arith))
+
+pub table-is : (xs : List ℕ) → length xs ≡ cycle → T (allPowers modulus 3 xs) → xs ≡ powersOfThree
+table-is xs size rule =
+    lists-agree xs powersOfThree (size ∙ sym table-size) (λ j l. let inside : j < cycle = rw size at l in powers-at modulus 3 xs (omega arith) rule j l ∙ sym (table-at j inside))
+
 -- ---- exponents
 
 pub three-cycles : 3 ^ 928 % 929 ≡ 1
@@ -60,8 +84,8 @@ exponent-next j i e few h =
     let next : j * (i + 1) ≡ j * i + j = omega arith in
     (λ l. omega (arith, next), λ l. omega (arith, next))
 
-pub exponent-power : (j i e v : ℕ) → e ≡ j * i % cycle → v ≡ power e → v ≡ powerAt j i
-exponent-power j i e v h is = is ∙ ap power h ∙ power-again modulus 3 cycle (j * i) (omega arith) three-cycles
+pub exponent-power : (j i e : ℕ) → e < cycle → e ≡ j * i % cycle → coefficient powersOfThree e ≡ powerAt j i
+exponent-power j i e inside h = table-at e inside ∙ ap power h ∙ power-again modulus 3 cycle (j * i) (omega arith) three-cycles
 
 -- ---- sums of products, one coefficient to a word
 

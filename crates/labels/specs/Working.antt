@@ -4,6 +4,7 @@
 --     checkWords m content      the check words: zero less the remainder, highest power first
 --     CheckWork g content rest out
 --                               and there is the generator, and a list of zeros to divide in
+--     powersOfThree             the powers of 3 modulo 929, from 3^0 on, one whole round
 --     timesRoot j g             g times (x - 3^j), modulo 929
 --     Divisor g part            a divisor, and as many coefficients of what it divides
 --     Dividing g a              a divisor, and what it divides
@@ -13,10 +14,11 @@ use Prim.Native.Nat.{ℕ, _+_, _*_, _≤_, _<_}
 use mathlib.Core.Path.{_≡_}
 use mathlib.Core.List.{List, reverse}
 use lib.ListN.{length, replicate}
+use Rattle.polynomials.specs.Indices.{upto}
 use Rattle.polynomials.specs.Lists.{product, residues, Below}
 use Rattle.divisions.specs.Divisions.{degree, less, remainder}
 use Rattle.divisions.specs.Values.{linear}
-use Rattle.labels.specs.Labels.{modulus, mostWords, mostChecks, root, power, generator, carried}
+use Rattle.labels.specs.Labels.{modulus, mostWords, mostChecks, root, power, cycle, generator, carried}
 
 pub record CheckRoom (content out : List ℕ) : Type 0 where
   pub below : Below modulus content
@@ -33,6 +35,9 @@ pub record CheckWork (g content rest out : List ℕ) : Type 0 where
   pub room : CheckRoom content out
   pub divisor : g ≡ generator (length out)
   pub zeros : rest ≡ replicate (length out + length content) 0
+
+unfoldable pub powersOfThree : List ℕ
+powersOfThree = upto cycle power
 
 abbrev pub timesRoot : ℕ → List ℕ → List ℕ
 timesRoot j g = residues modulus (product g (linear modulus (root j)))

@@ -1,24 +1,32 @@
 -- What follows from the promises of write and check alone. Assumes nothing.
 --     data-first        what write writes starts with the data words
 --     written-read      what write writes passes: check answers so
---     changed-read      a label that passes, with one word changed: check answers that it fails
-use Prim.Native.Nat.{ℕ, zero, suc, _<_}
-use mathlib.Core.Path.{_≡_, sym, ap, _∙_}
-use mathlib.Core.Bool.{true}
+--     changed-read      a label that passes, with 1 to m words changed, m being the level's check words: check answers that it fails
+--     exchanged xs i k  the words at i and k, each in the other's place
+--     word-changed, words-exchanged
+--                       so of one word changed, and of two different ones exchanged
+use Prim.Native.Nat.{ℕ, zero, suc, _≤_, _<_}
+use mathlib.Core.Path.{_≡_, refl, sym, ap, _∙_}
+use mathlib.Core.Bool.{Bool, true, false}
 use mathlib.Core.List.{List, [], _∷_}
 use native.Mathlib.Omega.{arith}
 use lib.ListN.{length, set, take, length-set}
-use lib.Seq.{take-append-seam}
+use lib.Seq.{take-append-seam, getD-set-same}
 use Rattle.polynomials.specs.Lists.{coefficient, Below}
+use Rattle.divisions.specs.Differences.{differences}
 use Rattle.packed.specs.Answers.{answered, fine}
 use Rattle.packed.specs.AnswerLaws.{passed-first, wrote-left}
 use Rattle.packed.specs.declared.answers.Wrote.the-variants.{Count}
 use Rattle.labels.specs.declared.Passing.{Passing}
 use Rattle.labels.specs.declared.Passing.the-variants.{Passes, Fails}
 use Rattle.labels.specs.Labels.{modulus, checkCount, label, writeChecks, readChecks, passes, WritesLabel, ChecksLabel, check-once}
-use Rattle.labels.specs.CheckLaws.{Writable, write-passed, Readable, read-passed, read-pass}
+use Rattle.labels.specs.CheckLaws.{count-low, Writable, write-passed, Readable, read-passed, read-pass}
 use Rattle.labels.specs.Working.{checkWords}
-use Rattle.labels.specs.LabelLaws.{label-words, label-length, label-below, written-passes, one-word}
+use Rattle.labels.specs.LabelLaws.{label-words, label-length, label-below, written-passes}
+use Rattle.labels.specs.DistanceLaws.{apart, differences-set, differences-swap}
+
+abbrev pub exchanged : List ℕ → ℕ → ℕ → List ℕ
+exchanged xs i k = set (set xs i (coefficient xs k)) k (coefficient xs i)
 
 module _ (s : ℕ) (content old after : List ℕ) (n : ℕ) (written : WritesLabel s content old (Count n) after) where
   writable : Writable s content (length old)
@@ -51,6 +59,14 @@ below-set c (x ∷ xs) zero v l h (suc j) = h (suc j)
 below-set c (x ∷ xs) (suc i) v l h zero = h 0
 below-set c (x ∷ xs) (suc i) v l h (suc j) = below-set c xs i v l (λ j. h (suc j)) j
 
+-- another word was put, or two different ones exchanged: it is another list
+put-other : (xs : List ℕ) (i v : ℕ) → i < length xs → (v ≡ coefficient xs i → ⊥) → xs ≡ set xs i v → ⊥
+put-other xs i v inside other same = other (sym (ap (λ (l : List ℕ). coefficient l i) same ∙ getD-set-same xs i v 0 inside))
+
+exchanged-other : (xs : List ℕ) (i k : ℕ) → k < length xs → (coefficient xs i ≡ coefficient xs k → ⊥) → xs ≡ exchanged xs i k → ⊥
+exchanged-other xs i k inside other same =
+    other (sym (ap (λ (l : List ℕ). coefficient l k) same ∙ getD-set-same (set xs i (coefficient xs k)) k (coefficient xs i) 0 (rw length-set inside)))
+
 module _ (s : ℕ) (words : List ℕ) (passed : ChecksLabel s words Passes) where
   both : (readChecks s words ≡ fine) × (answered (passes s words) ≡ answered true)
   both = passed-first (readChecks s words) (answered (passes s words)) true (sym passed)
@@ -61,16 +77,25 @@ module _ (s : ℕ) (words : List ℕ) (passed : ChecksLabel s words Passes) wher
   passes-so : passes s words ≡ true
   passes-so = let same : answered (passes s words) ≡ answered true = both .1 in cc
 
-  module _ (i v : ℕ) (inside : i < length words) (low : v < modulus) (other : v ≡ coefficient words i → ⊥) where
-    changed-readable : Readable s (set words i v)
-    changed-readable = record {
-      level = good .level;
-      some = rw length-set (good .some);
-      few = rw length-set (good .few);
-      below = below-set modulus words i v low (good .below);
-    }
+  module _ (others : List ℕ) (size : length others ≡ length words) (below : Below modulus others) (few : differences words others ≤ checkCount s) (other : words ≡ others → ⊥) where
+    fails-so : passes s others ≡ false
+    fails-so = go (passes s others) refl
+      where
+        go : (t : Bool) → passes s others ≡ t → t ≡ false
+        go true e = absurd (other (apart s words others (good .below) below (sym size) (good .few) passes-so e few))
+        go false e = refl
 
-    pub changed-read : (r : Passing) → ChecksLabel s (set words i v) r → r ≡ Fails
+    pub changed-read : (r : Passing) → ChecksLabel s others r → r ≡ Fails
     changed-read r h =
-        check-once s (set words i v) r Fails h
-        (rw (read-pass s (set words i v) changed-readable, one-word s words i v (good .below) inside low other passes-so))
+        let readable : Readable s others = record { level = good .level; some = rw size (good .some); few = rw size (good .few); below = below } in
+        check-once s others r Fails h (rw (read-pass s others readable, fails-so))
+
+  pub word-changed : (i v : ℕ) → i < length words → v < modulus → (v ≡ coefficient words i → ⊥) → (r : Passing) → ChecksLabel s (set words i v) r → r ≡ Fails
+  word-changed i v inside low other =
+      changed-read (set words i v) (length-set words i v) (below-set modulus words i v low (good .below)) (omega (arith, differences-set words i v, count-low s)) (put-other words i v inside other)
+
+  pub words-exchanged : (i k : ℕ) → i < length words → k < length words → (coefficient words i ≡ coefficient words k → ⊥) → (r : Passing) → ChecksLabel s (exchanged words i k) r → r ≡ Fails
+  words-exchanged i k hi hk other =
+      changed-read (exchanged words i k) (rw (length-set, length-set))
+      (below-set modulus (set words i (coefficient words k)) k (coefficient words i) (good .below i) (below-set modulus words i (coefficient words k) (good .below k) (good .below)))
+      (omega (arith, differences-swap words i k, count-low s)) (exchanged-other words i k hk other)

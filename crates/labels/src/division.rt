@@ -29,7 +29,7 @@ pub fn write_checks(content: &[u16], out: &mut [u16])
     write_checks_in(&generator[..m + 1], content, &mut rest[..n], out);
 }
 
-// In a list of zeros that is lent for it: data times x^m is divided, and what makes the remainder zero is written, highest power first.
+// In a list of zeros that is lent for it: data times x^m is divided, and zero less the remainder is written, highest power first.
 fn write_checks_in(g: &[u16], content: &[u16], rest: &mut [u16], out: &mut [u16])
     requires { ⌜ CheckWork (now g) (now content) (now rest) (now out) ⌝ }
     ensures { λ r. ⌜ now (out .exit) ≡ checkWords (length (now (out .entry))) (now (content .entry)) ⌝ }

@@ -3,8 +3,8 @@ ghost use mathlib.Core.Path.{_≡_};
 ghost use Prim.Native.Nat.{_-_, _<_, _≤_};
 ghost use lib.ListN.{length};
 ghost use Rattle.polynomials.specs.Indices.{upto};
-ghost use Rattle.labels.specs.Labels.{cycle, mostChecks, power};
-ghost use Rattle.labels.specs.Working.{powerAt};
+ghost use Rattle.labels.specs.Labels.{mostChecks};
+ghost use Rattle.labels.specs.Working.{powersOfThree, powerAt};
 
 // How many there are before 1 comes again.
 const CYCLE: usize = 928;
@@ -940,23 +940,22 @@ const POWERS: [u16; CYCLE] = [
     310,
 ];
 
-// 3^e modulo 929.
-pub fn power_of_three(e: usize) -> u16
-    requires { ⌜ e < cycle ⌝ }
-    ensures { λ r. ⌜ r ≡ power e ⌝ }
+// The table, for a caller that reads many of them: a constant is laid out anew wherever it is read.
+pub fn powers_of_three() -> [u16; CYCLE]
+    ensures { λ r. ⌜ r ≡ powersOfThree ⌝ }
 {
-    POWERS[e]
+    POWERS
 }
 
-// The powers of 3^j, from the one that is 1.
-pub fn fill_powers(j: usize, out: &mut [u16])
-    requires { ⌜ j ≤ mostChecks ⌝ }
+// The powers of 3^j, from the one that is 1, out of the table.
+pub fn fill_powers(j: usize, table: &[u16], out: &mut [u16])
+    requires { ⌜ (j ≤ mostChecks) × (now table ≡ powersOfThree) ⌝ }
     ensures { λ r. ⌜ now (out .exit) ≡ upto (length (now (out .entry))) (powerAt j) ⌝ }
 {
     let mut e = 0;
     let mut i = 0;
     while i < out.len() {
-        out[i] = power_of_three(e);
+        out[i] = table[e];
         e = e + j;
         if CYCLE <= e {
             e = e - CYCLE;

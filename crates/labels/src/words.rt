@@ -60,7 +60,7 @@ pub fn turn_opposites(xs: &[u16], out: &mut [u16])
     }
 }
 
-// Word by word, modulo 929.
+// Takes xs away, word by word, modulo 929.
 pub fn subtract(xs: &[u16], out: &mut [u16])
     requires { ⌜ (length (now out) ≡ length (now xs)) × Below modulus (now out) × Below modulus (now xs) ⌝ }
     ensures { λ r. ⌜ now (out .exit) ≡ less modulus (now (out .entry)) (now (xs .entry)) ⌝ }

@@ -1,33 +1,44 @@
 -- `fill_powers` meets its contract: after i turns the first i powers stand, and e is the exponent of the next. Assumes nothing.
-use Prim.Native.Nat.{_-_, _*_, _%_, _≤_}
-use mathlib.Core.Path.{_≡_, refl, _∙_}
+use Prim.Native.Nat.{_-_, _*_, _%_, _≤_, _<_}
+use mathlib.Core.Path.{_≡_, refl, ap, _∙_}
 use mathlib.Core.Logic.{⊎-elim}
 use native.Mathlib.Omega.{arith}
 use lib.ListN.{length, length-set}
+use denote.Ref.{now}
 use borrow.Author.Needs.{needs}
 use Rattle.polynomials.specs.Indices.{filled}
 use Rattle.polynomials.specs.IndexLaws.{filled-more}
+use Rattle.polynomials.specs.Lists.{coefficient}
 use Rattle.labels.specs.Labels.{cycle}
 use Rattle.labels.specs.Working.{powerAt}
 use Rattle.labels.specs.WordLaws.{filled-all}
-use Rattle.labels.specs.RootLaws.{exponent-next, exponent-power}
+use Rattle.labels.specs.RootLaws.{table-size, exponent-next, exponent-power}
 use Rattle.labels.proofs.powers.fill_powers.Statement.{statement}
 use Rattle.labels.proofs.powers.fill_powers.Tie as tie
 
 abbrev Inv-loop : tie.InvT-loop
-Inv-loop j out₀ e₀ i₀ out e i = (i ≤ length out₀) × (e ≡ j * i % cycle) × (out ≡ filled i (powerAt j) out₀) × (length out ≡ length out₀)
+Inv-loop j table out₀ e₀ i₀ out e i = (i ≤ length out₀) × (e ≡ j * i % cycle) × (out ≡ filled i (powerAt j) out₀) × (length out ≡ length out₀)
 
 abbrev μ-loop : tie.MeasureT-loop
-μ-loop j out₀ e₀ i₀ out e i = length out₀ - i
+μ-loop j table out₀ e₀ i₀ out e i = length out₀ - i
 
 loop-holds : tie.Need-loop-holds Inv-loop μ-loop
 loop-holds c = (omega arith, omega arith, refl, refl)
 
-power-of-three-requires : tie.Need-power-of-three-requires Inv-loop μ-loop
-power-of-three-requires c κs = omega (arith, c .before .loop .inv .1)
+-- the table has an entry for each exponent
+inside : (c : tie.In-loop Inv-loop μ-loop) → c .before .loop .e < length (now (c .before .before .args .table))
+inside c =
+    let size : length (now (c .before .before .args .table)) ≡ cycle = ap length (c .before .before .pre .1) ∙ table-size in
+    omega (arith, size, c .before .loop .inv .1)
 
 mul-out : tie.Need-mul-out Inv-loop μ-loop
 mul-out c = search needs
+
+shared-slice-read-out : tie.Need-shared-slice-read-out Inv-loop μ-loop
+shared-slice-read-out c = inside (c .before)
+
+mul-out-2 : tie.Need-mul-out-2 Inv-loop μ-loop
+mul-out-2 c = search needs
 
 slice-write-out : tie.Need-slice-write-out Inv-loop μ-loop
 slice-write-out c = search needs
@@ -43,13 +54,13 @@ loop-less c = search needs
 
 loop-again : tie.Need-loop-again Inv-loop μ-loop
 loop-again c =
-    let a = c .before .before .before .before .before .args in
+    let a = c .before .before .before .before .args in
     let l = c .before .before .before .loop in
-    let v = c .before .power-of-three in
-    let next = exponent-next (a .j) (l .i) (l .e) (c .before .before .before .before .before .pre) (l .inv .1) in (
+    let next = exponent-next (a .j) (l .i) (l .e) (c .before .before .before .before .pre .0) (l .inv .1) in
+    let here : coefficient (now (a .table)) (l .e) ≡ powerAt (a .j) (l .i) = rw (c .before .before .before .before .pre .1) (exponent-power (a .j) (l .i) (l .e) (omega (arith, l .inv .1)) (l .inv .1)) in (
       omega (arith, l .inv .3),
       ⊎-elim (λ w. w .1 ∙ next .1 (w .0 .taken)) (λ w. w .1 ∙ next .0 (w .0 .left)) (c .if1 .came),
-      filled-more (powerAt (a .j)) (a .out .now) (l .out) (l .i) (v .result) (omega (arith, l .inv .3)) (l .inv .2) (exponent-power (a .j) (l .i) (l .e) (v .result) (l .inv .1) (v .ensures)),
+      filled-more (powerAt (a .j)) (now (a .out)) (l .out) (l .i) (coefficient (now (a .table)) (l .e)) (omega (arith, l .inv .3)) (l .inv .2) here,
       simp length-set (l .inv .3),
     )
 
@@ -58,7 +69,7 @@ same-length c = c .before .loop .inv .3
 
 returns : tie.Need-returns Inv-loop μ-loop
 returns c =
-    let a = c .before .before .before .args in
+    let a = c .before .before .args in
     let l = c .before .loop in
     let all : l .i ≡ length (a .out .now) = omega (arith, l .inv .0, l .inv .3) in
     l .inv .2 ∙ rw all (filled-all (powerAt (a .j)) (a .out .now))
@@ -70,8 +81,9 @@ fill-powers-spec =
     Inv-loop
     μ-loop
     loop-holds
-    power-of-three-requires
     mul-out
+    shared-slice-read-out
+    mul-out-2
     slice-write-out
     add-e
     add-i

@@ -20,7 +20,7 @@ array-borrow-prefix-powers : tie.Need-array-borrow-prefix-powers
 array-borrow-prefix-powers c = search needs
 
 slice-aggregate-fill-powers : tie.Need-slice-aggregate-fill-powers
-slice-aggregate-fill-powers c = sym (length-take-le (length (c .before .before .args .a .now)) blank (c .before .before .pre .1 .few))
+slice-aggregate-fill-powers c = sym (length-take-le (length (c .before .before .before .args .a .now)) blank (c .before .before .before .pre .2 .few))
 
 fill-powers-requires : tie.Need-fill-powers-requires
 fill-powers-requires c κs = search needs
@@ -30,13 +30,13 @@ fresh-requires c κs = search needs
 
 array-share-prefix-powers : tie.Need-array-share-prefix-powers
 array-share-prefix-powers c =
-    let start = c .before .before .before .before .before in
+    let start = c .before .before .before .before .before .before in
     let f = c .before .before .fill-powers in
-    lent-room (length (start .args .a .now)) (powerAt (start .args .j)) blank (f .last .1 .0) (start .pre .1 .few) (f .ensures)
+    lent-room (length (start .args .a .now)) (powerAt (start .args .j)) blank (f .last .1 .1 .0) (start .pre .2 .few) (f .ensures)
 
 slice-aggregate-feed : tie.Need-slice-aggregate-feed
 slice-aggregate-feed c =
-    sym (length-take-le (length (c .before .before .before .before .before .before .args .a .now)) _ (array-share-prefix-powers (c .before)))
+    sym (length-take-le (length (c .before .before .before .before .before .before .before .args .a .now)) _ (array-share-prefix-powers (c .before)))
 
 feed-requires : tie.Need-feed-requires
 feed-requires c κs = search needs
@@ -52,14 +52,14 @@ array-read-result c = search needs
 
 returns : tie.Need-returns
 returns c =
-    let start = c .before .before .before .before .before .before .before .before .before .before in
+    let start = c .before .before .before .before .before .before .before .before .before .before .before in
     let a = now (start .args .a) in
     let f = c .before .before .before .before .before .before .before .fill-powers in
     let fresh = c .before .before .before .before .before .fresh in
     let feed = c .before .before .before .feed in
     let close = c .before .close in
-    let lent = lent-filled (length a) (powerAt (start .args .j)) blank (f .last .1 .0) (start .pre .1 .few) (f .ensures) in
-    value-closed a (start .args .j) (start .pre .1) _ (fresh .result) (feed .result) (close .result) (close .last .1 .0) lent (fresh .ensures) (feed .ensures) (close .ensures)
+    let lent = lent-filled (length a) (powerAt (start .args .j)) blank (f .last .1 .1 .0) (start .pre .2 .few) (f .ensures) in
+    value-closed a (start .args .j) (start .pre .2) _ (fresh .result) (feed .result) (close .result) (close .last .1 .0) lent (fresh .ensures) (feed .ensures) (close .ensures)
 
 pub value-at-spec : {M : Type 1} → statement M
 value-at-spec =
