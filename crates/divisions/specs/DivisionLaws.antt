@@ -55,17 +55,17 @@ divided-below p g (suc i) a h b = divided-below p g i (cancelled p g i a) h (les
 
 pub divided-first : (p : ℕ) (g a : List ℕ) → 0 < p → Below p a → degree g ≤ length a → take (degree g) (divided p g (length a - degree g) a) ≡ remainder p g a
 divided-first p g a h b l =
-    lists-agree (take (degree g) (divided p g (length a - degree g) a)) (remainder p g a) (size ∙ sym (remainder-length p g a))
+    lists-agree (take (degree g) (rest p g a)) (remainder p g a) (size ∙ sym (remainder-length p g a))
     (λ j t. let low : j < degree g = rw size at t in at j low)
   where
-    size : length (take (degree g) (divided p g (length a - degree g) a)) ≡ degree g
-    size = length-take-le (degree g) (divided p g (length a - degree g) a) (rw divided-length l)
+    size : length (take (degree g) (rest p g a)) ≡ degree g
+    size = length-take-le (degree g) (rest p g a) (rw divided-length l)
 
-    at : (j : ℕ) → j < degree g → coefficient (take (degree g) (divided p g (length a - degree g) a)) j ≡ coefficient (remainder p g a) j
+    at : (j : ℕ) → j < degree g → coefficient (take (degree g) (rest p g a)) j ≡ coefficient (remainder p g a) j
     at j low =
-        getD-take (degree g) (divided p g (length a - degree g) a) j 0 low
+        getD-take (degree g) (rest p g a) j 0 low
         ∙ sym (
-        upto-at (degree g) (λ j. coefficient (divided p g (length a - degree g) a) j % p) j low
+        upto-at (degree g) (λ j. coefficient (rest p g a) j % p) j low
         ∙ mod-eq-of-lt (divided-below p g (length a - degree g) a h b j)
         )
 
