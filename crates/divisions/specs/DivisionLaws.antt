@@ -6,6 +6,7 @@
 --     multiple                             a less its remainder is the quotient times g: g divides it
 --     unique                               no other quotient and remainder of at most m coefficients do so, modulo p
 --     unique-remainder                     and no other list of m coefficients below p is the remainder
+--     multiples-agree                      two multiples of g that agree from x^m on, and have coefficients below p under it, agree there too
 use Prim.Native.Nat.{ℕ, zero, suc, _+_, _-_, _*_, _%_, _≤_, _<_, max}
 use mathlib.Core.Path.{_≡_, refl, sym, ap, _∙_}
 use mathlib.Core.List.{List, [], _∷_, _++_}
@@ -223,3 +224,30 @@ unique-remainder p m g a q r hp mo h b e =
     let same : Same p r (remainder p g a) = unique p m g a q r hp mo (omega arith) e .1 in
     lists-agree r (remainder p g a) (rw remainder-length (omega (arith, mo .size)))
     (λ j l. sym (mod-eq-of-lt (b j)) ∙ same .each j ∙ mod-eq-of-lt (remainder-below p g a hp j))
+
+-- ---- two multiples that agree from x^m on
+
+-- each with the lowest coefficients of the other added
+lowest-added : (c d xs : List ℕ) → length c ≡ length d → (j : ℕ) → coefficient (c ++ xs) j + coefficient d j ≡ coefficient (d ++ xs) j + coefficient c j
+lowest-added [] [] xs e j = refl
+lowest-added [] (y ∷ d) xs e j = absurd (omega arith)
+lowest-added (x ∷ c) [] xs e j = absurd (omega arith)
+lowest-added (x ∷ c) (y ∷ d) xs e zero = add-comm x y
+lowest-added (x ∷ c) (y ∷ d) xs e (suc j) = lowest-added c d xs (omega arith) j
+
+module _ (p m : ℕ) (g c d xs q s : List ℕ) (hp : 0 < p) (mo : Monic m g) (size-c : length c ≡ m) (size-d : length d ≡ m) (below-c : Below p c) (below-d : Below p d)
+    (first : Same p (c ++ xs) (product q g)) (second : Same p (d ++ xs) (product s g)) where
+  -- the one multiple and d is the other and c
+  both : Same p (sum (product q g) d) (sum (product s g) c)
+  both = record {
+    each = λ j. rw (coefficient-sum (product q g) d j, coefficient-sum (product s g) c j)
+        (sym (add-congruent p (coefficient (c ++ xs) j) (coefficient (product q g) j) (coefficient d j) (coefficient d j) (first .each j) refl)
+        ∙ ap (λ (n : ℕ). n % p) (lowest-added c d xs (size-c ∙ sym size-d) j)
+        ∙ add-congruent p (coefficient (d ++ xs) j) (coefficient (product s g) j) (coefficient c j) (coefficient c j) (second .each j) refl);
+  }
+
+  -- so both are its remainder
+  pub multiples-agree : c ≡ d
+  multiples-agree =
+      let a : List ℕ = sum (product q g) d in
+      unique-remainder p m g a s c hp mo size-c below-c both ∙ sym (unique-remainder p m g a q d hp mo size-d below-d (record { each = λ j. refl }))

@@ -9,3 +9,4 @@ pub mod ReverseLaws
 pub mod ValueLaws
 pub mod PowerLaws
 pub mod IndependenceLaws
+pub mod DifferenceLaws

@@ -2,32 +2,30 @@
 --     nonzero-cancels    929 is prime: what is not 0 modulo 929 is no factor of 0
 --     powers-differ      the powers of 3 below 3^928 are one number modulo 929 at one exponent only
 --     apart              two labels of one length that both pass, and differ in no more places than there are check words, are one
---     differences-set    to put one word changes one place at most
---     differences-swap   to swap two words changes two
 use Prim.Native.Nat.{ℕ, _+_, _-_, _*_, _%_, _^_, _≤_, _<_}
 use mathlib.Core.Path.{_≡_, refl, sym, ap, _∙_}
-use mathlib.Core.Bool.{Bool, true, false, not}
+use mathlib.Core.Bool.{Bool, true, not}
 use mathlib.Core.List.{List, reverse, reverse-reverse}
 use native.Mathlib.Nat.{zero-add, mul-comm, pow-zero, pow-succ'}
 use native.Mathlib.Decide.{decLt}
 use native.Mathlib.Omega.{arith}
 use lib.Dec.{eqb}
-use lib.ListN.{length, set, length-set, length-reverse}
+use lib.ListN.{length, length-reverse}
 use lib.Pow.{pow-add}
-use lib.Seq.{getD-set-other}
-use borrow.Author.Tests.{eq-eqb, eqb-true, eqb-false, not-false}
-use Rattle.polynomials.specs.Indices.{pick, sumTo, first}
-use Rattle.polynomials.specs.IndexLaws.{sum-same, sum-window, first-none}
+use borrow.Author.Tests.{eqb-true, eqb-false, not-false}
+use Rattle.polynomials.specs.Indices.{sumTo, first}
+use Rattle.polynomials.specs.IndexLaws.{sum-same, first-none}
 use Rattle.polynomials.specs.Lists.{coefficient, Below}
 use Rattle.polynomials.specs.ListLaws.{lists-agree}
 use Rattle.polynomials.specs.Places.{minus}
 use Rattle.polynomials.specs.PlaceLaws.{power-power}
 use Rattle.polynomials.specs.ReductionLaws.{mul-mod, minus-is}
-use Rattle.divisions.specs.ReverseLaws.{coefficient-reverse, reverse-below}
+use Rattle.divisions.specs.ReverseLaws.{reverse-below}
 use Rattle.divisions.specs.ValueLaws.{packed-sum-of}
 use Rattle.divisions.specs.PowerLaws.{power-again, power-cancels}
-use Rattle.divisions.specs.Differences.{differences}
-use Rattle.divisions.specs.IndependenceLaws.{sum-add, sum-turned, sum-most, unlike-most, Cancels, some, count, minus-itself, sum-minus, independent}
+use Rattle.divisions.specs.Differences.{unlike, differences}
+use Rattle.divisions.specs.DifferenceLaws.{differences-turned}
+use Rattle.divisions.specs.IndependenceLaws.{sum-most, unlike-most, Cancels, some, count, minus-itself, sum-minus, independent}
 use Rattle.labels.specs.Labels.{modulus, mostWords, checkCount, root, power, cycle, passes}
 use Rattle.labels.specs.RootLaws.{three-cycles}
 use Rattle.labels.specs.LabelLaws.{vanishes-exactly}
@@ -89,45 +87,6 @@ differences-cancel : (i k : ℕ) → i < cycle → k < cycle → (i ≡ k → �
 differences-cancel i k li lk other c =
     nonzero-cancels (root i + (modulus - root k % modulus)) c
     (λ none. powers-apart i k li lk other (sym (minus-is modulus (root i) (root k) (omega arith)) ∙ rw (none, zero-add)))
-
--- ---- places that differ
-
--- 1 where two lists differ
-abbrev unlike : List ℕ → List ℕ → ℕ → ℕ
-unlike a b i = pick (eqb (coefficient a i) (coefficient b i)) 0 1
-
-alike : (a b : List ℕ) (i : ℕ) → coefficient a i ≡ coefficient b i → unlike a b i ≡ 0
-alike a b i e = rw (eq-eqb (coefficient a i) (coefficient b i) e)
-
-unlike-one : (a b : List ℕ) (i : ℕ) → unlike a b i ≤ 1
-unlike-one a b i = unlike-most 0 1 (coefficient a i) (coefficient b i) (λ e. absurd (omega arith))
-
-differences-turned : (a b : List ℕ) → length a ≡ length b → sumTo (length a) (unlike (reverse a) (reverse b)) ≡ differences a b
-differences-turned a b size =
-    let n : ℕ = length a in
-    sum-same n (unlike (reverse a) (reverse b)) (λ i. unlike a b (n - 1 - i)) (λ i l. rw (coefficient-reverse a i l, coefficient-reverse b i (rw (← size) l), ← size))
-    ∙ sum-turned n (unlike a b)
-
--- a third list between them
-differences-between : (a b c : List ℕ) → length a ≡ length b → differences a c ≤ differences a b + differences b c
-differences-between a b c size =
-    let most : differences a c ≤ sumTo (length a) (λ i. unlike a b i + unlike b c i) = sum-most (length a) (unlike a c) (λ i. unlike a b i + unlike b c i) (λ i l. at i (eqb (coefficient a i) (coefficient b i)) refl) in
-    rw (← size) (rw (sum-add (length a) (unlike a b) (unlike b c)) at most)
-  where
-    at : (i : ℕ) (t : Bool) → eqb (coefficient a i) (coefficient b i) ≡ t → unlike a c i ≤ pick t 0 1 + unlike b c i
-    at i true e = omega (arith, unlike-most (coefficient b i) (coefficient c i) (coefficient a i) (coefficient c i) (λ f. eqb-true (coefficient a i) (coefficient b i) e ∙ f))
-    at i false e = omega (arith, unlike-one a c i)
-
-pub differences-set : (words : List ℕ) (i v : ℕ) → differences words (set words i v) ≤ 1
-differences-set words i v =
-    let there : List ℕ = set words i v in
-    let kept : (j : ℕ) → (j ≡ i → ⊥) → unlike words there j ≡ 0 = λ j other. alike words there j (sym (getD-set-other words i j v 0 other)) in
-    omega (arith, sum-window i (i + 1) 1 (unlike words there) (unlike-one words there) (λ j l. kept j (λ e. omega arith)) (λ j l. kept j (λ e. omega arith)) (length words))
-
-pub differences-swap : (words : List ℕ) (i k : ℕ) → differences words (set (set words i (coefficient words k)) k (coefficient words i)) ≤ 2
-differences-swap words i k =
-    let once : List ℕ = set words i (coefficient words k) in
-    omega (arith, differences-between words once (set once k (coefficient words i)) (sym (length-set words i (coefficient words k))), differences-set words i (coefficient words k), differences-set once k (coefficient words i))
 
 -- ---- labels
 

@@ -15,7 +15,7 @@ use native.Mathlib.Nat.{lt-of-le-of-lt, mod-lt, mod-mod, mul-comm, add-zero, zer
 use native.Mathlib.Omega.{arith}
 use lib.Dec.{T}
 use lib.ListN.{length, take, drop}
-use lib.Seq.{length-take-le}
+use lib.Seq.{length-take-le, take-at}
 use Rattle.polynomials.specs.Indices.{upto, sumTo}
 use Rattle.polynomials.specs.IndexLaws.{length-upto, upto-at, upto-most, sum-same}
 use Rattle.polynomials.specs.Lists.{coefficient, Below, sumOfProducts}
@@ -41,7 +41,7 @@ use Rattle.packed.specs.declared.running.Fed.{Fed}
 use Rattle.packed.specs.declared.running.Closed.{Closed}
 use Rattle.labels.specs.Labels.{modulus, mostChecks, cycle, root, power, valueAt}
 use Rattle.labels.specs.Working.{powersOfThree, Polynomial, powerAt}
-use Rattle.labels.specs.WordLaws.{front-fits, front}
+use Rattle.labels.specs.WordLaws.{front-fits}
 use Rattle.labels.specs.SettingLaws.{labelSetting, label-setting-fine}
 
 -- ---- the lent part of a list
@@ -54,7 +54,7 @@ module _ (n : ℕ) (f : ℕ → ℕ) (old now : List ℕ) (few : n ≤ length ol
   lent-room = front-fits now (drop n old) n made-size
 
   pub lent-filled : take n (now ++ drop n old) ≡ upto n f
-  lent-filled = front now (drop n old) n made-size ∙ made ∙ rw (length-take-le n old few)
+  lent-filled = take-at now (drop n old) n made-size ∙ made ∙ rw (length-take-le n old few)
 
 -- ---- the table
 

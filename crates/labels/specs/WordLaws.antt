@@ -6,14 +6,14 @@
 --     turned-opposites      a list filled with these is that of the opposites, reversed
 --     lessAt old xs j       word j of old, less that of xs, modulo 929
 --     still-there           what a filling loop has not reached is as it was
---     filled-all            a list that is filled to its end
---     front-fits, front     the first words of a list that starts with them
+--     filled-through        a list that is filled to its end
+--     front-fits            a list that starts with n words has as many
 use Prim.Native.Nat.{ℕ, _-_, _≤_, _<_}
 use mathlib.Core.Path.{_≡_, sym, ap, _∙_}
 use mathlib.Core.List.{List, [], _++_, append-nil, reverse}
 use native.Mathlib.Omega.{arith}
-use lib.ListN.{length, take, replicate, length-append, length-replicate}
-use lib.Seq.{drop-length, take-append-seam}
+use lib.ListN.{length, replicate, length-append, length-replicate}
+use lib.Seq.{drop-length}
 use Rattle.polynomials.specs.Indices.{upto, filled}
 use Rattle.polynomials.specs.Lists.{coefficient}
 use Rattle.polynomials.specs.IndexLaws.{upto-same}
@@ -33,13 +33,12 @@ lessAt old xs j = minus modulus (coefficient old j) (coefficient xs j)
 pub still-there : (f : ℕ → ℕ) (old now : List ℕ) (i : ℕ) → now ≡ filled i f old → coefficient now i ≡ coefficient old i
 still-there f old now i e = rw e (filled-after i f old i (omega arith))
 
-pub filled-all : (f : ℕ → ℕ) (old : List ℕ) → filled (length old) f old ≡ upto (length old) f
-filled-all f old = rw (drop-length old, append-nil (upto (length old) f))
+pub filled-through : (f : ℕ → ℕ) (old now : List ℕ) (i : ℕ) → i ≡ length old → now ≡ filled i f old → now ≡ upto (length old) f
+filled-through f old now i all e = e ∙ rw (all, drop-length old, append-nil (upto (length old) f))
 
 pub turned : (xs old now : List ℕ) (i : ℕ) → length old ≡ length xs → i ≡ length xs → now ≡ filled i (fromEnd xs) old → now ≡ reverse xs
 turned xs old now i size all e =
-    let whole : i ≡ length old = all ∙ sym size in
-    e ∙ rw whole (filled-all (fromEnd xs) old ∙ rw size (sym (reverse-list xs)))
+    filled-through (fromEnd xs) old now i (all ∙ sym size) e ∙ rw size (sym (reverse-list xs))
 
 abbrev pub oppositeFromEnd : List ℕ → ℕ → ℕ
 oppositeFromEnd xs j = minus modulus 0 (fromEnd xs j)
@@ -52,12 +51,8 @@ coefficient-opposites xs j l = coefficient-less modulus (replicate (length xs) 0
 
 pub turned-opposites : (xs old now : List ℕ) (i : ℕ) → length old ≡ length xs → i ≡ length xs → now ≡ filled i (oppositeFromEnd xs) old → now ≡ reverse (opposites xs)
 turned-opposites xs old now i size all e =
-    let whole : i ≡ length old = all ∙ sym size in
     let same : upto (length xs) (oppositeFromEnd xs) ≡ upto (length xs) (fromEnd (opposites xs)) = upto-same (length xs) (oppositeFromEnd xs) (fromEnd (opposites xs)) (λ j l. rw (length-opposites xs) (sym (coefficient-opposites xs (length xs - 1 - j) (omega arith)))) in
-    e ∙ rw whole (filled-all (oppositeFromEnd xs) old ∙ rw size (same ∙ sym (reverse-list (opposites xs) ∙ ap (λ (n : ℕ). upto n (fromEnd (opposites xs))) (length-opposites xs))))
+    filled-through (oppositeFromEnd xs) old now i (all ∙ sym size) e ∙ rw size (same ∙ sym (reverse-list (opposites xs) ∙ ap (λ (n : ℕ). upto n (fromEnd (opposites xs))) (length-opposites xs)))
 
 pub front-fits : (xs ys : List ℕ) (n : ℕ) → length xs ≡ n → n ≤ length (xs ++ ys)
 front-fits xs ys n size = simp length-append (omega arith)
-
-pub front : (xs ys : List ℕ) (n : ℕ) → length xs ≡ n → take n (xs ++ ys) ≡ xs
-front xs ys n size = rw (← size) (take-append-seam xs ys)

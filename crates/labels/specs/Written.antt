@@ -2,18 +2,18 @@
 --     data-first        what write writes starts with the data words
 --     written-read      what write writes passes: check answers so
 --     changed-read      a label that passes, with 1 to m words changed, m being the level's check words: check answers that it fails
---     exchanged xs i k  the words at i and k, each in the other's place
 --     word-changed, words-exchanged
 --                       so of one word changed, and of two different ones exchanged
-use Prim.Native.Nat.{ℕ, zero, suc, _≤_, _<_}
+use Prim.Native.Nat.{ℕ, _≤_, _<_}
 use mathlib.Core.Path.{_≡_, refl, sym, ap, _∙_}
 use mathlib.Core.Bool.{Bool, true, false}
-use mathlib.Core.List.{List, [], _∷_}
+use mathlib.Core.List.{List}
 use native.Mathlib.Omega.{arith}
 use lib.ListN.{length, set, take, length-set}
-use lib.Seq.{take-append-seam, getD-set-same}
+use lib.Seq.{take-append-seam}
 use Rattle.polynomials.specs.Lists.{coefficient, Below}
-use Rattle.divisions.specs.Differences.{differences}
+use Rattle.divisions.specs.Differences.{differences, exchanged}
+use Rattle.divisions.specs.DifferenceLaws.{differences-set, differences-exchanged, below-set, set-other, exchanged-other}
 use Rattle.packed.specs.Answers.{answered, fine}
 use Rattle.packed.specs.AnswerLaws.{passed-first, wrote-left}
 use Rattle.packed.specs.declared.answers.Wrote.the-variants.{Count}
@@ -23,10 +23,7 @@ use Rattle.labels.specs.Labels.{modulus, checkCount, label, writeChecks,
 use Rattle.labels.specs.CheckLaws.{count-low, Writable, write-passed, Readable, read-passed, read-pass}
 use Rattle.labels.specs.Working.{checkWords}
 use Rattle.labels.specs.LabelLaws.{label-words, label-length, label-below, written-passes}
-use Rattle.labels.specs.DistanceLaws.{apart, differences-set, differences-swap}
-
-abbrev pub exchanged : List ℕ → ℕ → ℕ → List ℕ
-exchanged xs i k = set (set xs i (coefficient xs k)) k (coefficient xs i)
+use Rattle.labels.specs.DistanceLaws.{apart}
 
 module _ (s : ℕ) (content old after : List ℕ) (n : ℕ) (written : WritesLabel s content old (Count n) after) where
   writable : Writable s content (length old)
@@ -50,22 +47,6 @@ module _ (s : ℕ) (content old after : List ℕ) (n : ℕ) (written : WritesLab
   written-read r h =
       let told : ChecksLabel s (label s content) r = rw is-label at h in
       check-once s (label s content) r Passes told (rw (read-pass s (label s content) readable, written-passes s content))
-
--- a list below c stays so where what is put is below c
-below-set : (c : ℕ) (xs : List ℕ) (i v : ℕ) → v < c → Below c xs → Below c (set xs i v)
-below-set c [] i v l h j = h j
-below-set c (x ∷ xs) zero v l h zero = l
-below-set c (x ∷ xs) zero v l h (suc j) = h (suc j)
-below-set c (x ∷ xs) (suc i) v l h zero = h 0
-below-set c (x ∷ xs) (suc i) v l h (suc j) = below-set c xs i v l (λ j. h (suc j)) j
-
--- another word was put, or two different ones exchanged: it is another list
-put-other : (xs : List ℕ) (i v : ℕ) → i < length xs → (v ≡ coefficient xs i → ⊥) → xs ≡ set xs i v → ⊥
-put-other xs i v inside other same = other (sym (ap (λ (l : List ℕ). coefficient l i) same ∙ getD-set-same xs i v 0 inside))
-
-exchanged-other : (xs : List ℕ) (i k : ℕ) → k < length xs → (coefficient xs i ≡ coefficient xs k → ⊥) → xs ≡ exchanged xs i k → ⊥
-exchanged-other xs i k inside other same =
-    other (sym (ap (λ (l : List ℕ). coefficient l k) same ∙ getD-set-same (set xs i (coefficient xs k)) k (coefficient xs i) 0 (rw length-set inside)))
 
 module _ (s : ℕ) (words : List ℕ) (passed : ChecksLabel s words Passes) where
   both : (readChecks s words ≡ fine) × (answered (passes s words) ≡ answered true)
@@ -92,10 +73,10 @@ module _ (s : ℕ) (words : List ℕ) (passed : ChecksLabel s words Passes) wher
 
   pub word-changed : (i v : ℕ) → i < length words → v < modulus → (v ≡ coefficient words i → ⊥) → (r : Passing) → ChecksLabel s (set words i v) r → r ≡ Fails
   word-changed i v inside low other =
-      changed-read (set words i v) (length-set words i v) (below-set modulus words i v low (good .below)) (omega (arith, differences-set words i v, count-low s)) (put-other words i v inside other)
+      changed-read (set words i v) (length-set words i v) (below-set modulus words i v low (good .below)) (omega (arith, differences-set words i v, count-low s)) (set-other words i v inside other)
 
   pub words-exchanged : (i k : ℕ) → i < length words → k < length words → (coefficient words i ≡ coefficient words k → ⊥) → (r : Passing) → ChecksLabel s (exchanged words i k) r → r ≡ Fails
   words-exchanged i k hi hk other =
       changed-read (exchanged words i k) (rw (length-set, length-set))
       (below-set modulus (set words i (coefficient words k)) k (coefficient words i) (good .below i) (below-set modulus words i (coefficient words k) (good .below k) (good .below)))
-      (omega (arith, differences-swap words i k, count-low s)) (exchanged-other words i k hk other)
+      (omega (arith, differences-exchanged words i k, count-low s)) (exchanged-other words i k hk other)

@@ -4,7 +4,7 @@ use mathlib.Core.Bool.{Bool}
 use mathlib.Core.List.{List, reverse}
 use Prim.Native.Nat.{ℕ}
 use lib.ListN.{length, length-reverse}
-use lib.Seq.{length-take-le}
+use lib.Seq.{length-take-le, take-at}
 use denote.Ref.{now}
 use borrow.Author.Needs.{needs}
 use Rattle.packed.specs.Answers.{answered, fine}
@@ -13,7 +13,7 @@ use Rattle.divisions.specs.ReverseLaws.{reverse-below}
 use Rattle.labels.specs.Labels.{readChecks, passes}
 use Rattle.labels.specs.Working.{Polynomial}
 use Rattle.labels.specs.CheckLaws.{Readable, read-passed, count-most}
-use Rattle.labels.specs.WordLaws.{front-fits, front}
+use Rattle.labels.specs.WordLaws.{front-fits}
 use Rattle.labels.proofs.check.Statement.{statement}
 use Rattle.labels.proofs.check.Tie as tie
 
@@ -35,7 +35,7 @@ polynomial : (words : List ℕ) (s : ℕ) → Readable s words → Polynomial (r
 polynomial words s r = record { below = reverse-below _ words (r .below); few = rw (length-reverse words) (r .few) }
 
 answer : (c : tie.After-vanishes) → c .vanishes .result ≡ passes (c .before .before .before .before .before .before .before .before .before .before .args .level) (now (c .before .before .before .before .before .before .before .before .before .before .args .words))
-answer c = c .vanishes .ensures ∙ rw (c .before .before .check-count .ensures, front (c .before .before .before .before .turn .last .1 .0) _ _ (turned-size (c .before .before .before .before)), turned (c .before .before .before .before))
+answer c = c .vanishes .ensures ∙ rw (c .before .before .check-count .ensures, take-at (c .before .before .before .before .turn .last .1 .0) _ _ (turned-size (c .before .before .before .before)), turned (c .before .before .before .before))
 
 -- ---- the needs
 
@@ -67,12 +67,12 @@ array-share-prefix-polynomial : tie.Need-array-share-prefix-polynomial
 array-share-prefix-polynomial c = front-fits (c .before .before .turn .last .1 .0) _ _ (turned-size (c .before .before))
 
 slice-aggregate-vanishes : tie.Need-slice-aggregate-vanishes
-slice-aggregate-vanishes c = sym (ap length (front (c .before .before .before .turn .last .1 .0) _ _ (turned-size (c .before .before .before))) ∙ turned-size (c .before .before .before))
+slice-aggregate-vanishes c = sym (ap length (take-at (c .before .before .before .turn .last .1 .0) _ _ (turned-size (c .before .before .before))) ∙ turned-size (c .before .before .before))
 
 vanishes-requires : tie.Need-vanishes-requires
 vanishes-requires c κs = (
   rw (c .before .check-count .ensures) (count-most (c .before .before .before .before .before .before .before .before .before .args .level) (readable (c .before .before .before .before .before) .level)),
-  rw (front (c .before .before .before .turn .last .1 .0) _ _ (turned-size (c .before .before .before)), turned (c .before .before .before)) (polynomial (now (c .before .before .before .before .before .before .before .before .before .args .words)) (c .before .before .before .before .before .before .before .before .before .args .level) (readable (c .before .before .before .before .before))),
+  rw (take-at (c .before .before .before .turn .last .1 .0) _ _ (turned-size (c .before .before .before)), turned (c .before .before .before)) (polynomial (now (c .before .before .before .before .before .before .before .before .before .args .words)) (c .before .before .before .before .before .before .before .before .before .args .level) (readable (c .before .before .before .before .before))),
 )
 
 returns-2 : tie.Need-returns-2

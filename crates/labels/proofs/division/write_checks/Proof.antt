@@ -3,12 +3,12 @@ use Prim.Native.Nat.{ℕ, _+_}
 use mathlib.Core.Path.{_≡_, sym, ap, _∙_}
 use native.Mathlib.Omega.{arith}
 use lib.ListN.{length, replicate}
-use lib.Seq.{length-take-le}
+use lib.Seq.{length-take-le, take-at}
 use denote.Ref.{now}
 use borrow.Author.Needs.{needs}
 use Rattle.divisions.specs.ValueLaws.{length-withRoots}
 use Rattle.labels.specs.Labels.{modulus, mostChecks, mostWords, root, generator}
-use Rattle.labels.specs.WordLaws.{front-fits, front}
+use Rattle.labels.specs.WordLaws.{front-fits}
 use Rattle.labels.specs.CheckWordLaws.{zeros-first, made-generator}
 use Rattle.labels.proofs.division.write_checks.Statement.{statement}
 use Rattle.labels.proofs.division.write_checks.Tie as tie
@@ -48,7 +48,7 @@ array-share-prefix-generator : tie.Need-array-share-prefix-generator
 array-share-prefix-generator c = front-fits (c .before .make-generator .last .0) _ _ (made-size (c .before))
 
 slice-aggregate-write-checks-in : tie.Need-slice-aggregate-write-checks-in
-slice-aggregate-write-checks-in c = sym (ap length (front (c .before .before .make-generator .last .0) _ _ (made-size (c .before .before))) ∙ made-size (c .before .before))
+slice-aggregate-write-checks-in c = sym (ap length (take-at (c .before .before .make-generator .last .0) _ _ (made-size (c .before .before))) ∙ made-size (c .before .before))
 
 array-borrow-prefix-rest : tie.Need-array-borrow-prefix-rest
 array-borrow-prefix-rest c = search needs
@@ -61,7 +61,7 @@ write-checks-in-requires c κs =
     let s = c .before .before .before .before .before .before .before .before in
     record {
       room = s .pre;
-      divisor = front (c .before .before .before .before .make-generator .last .0) _ _ (made-size (c .before .before .before .before)) ∙ made (c .before .before .before .before);
+      divisor = take-at (c .before .before .before .before .make-generator .last .0) _ _ (made-size (c .before .before .before .before)) ∙ made (c .before .before .before .before);
       zeros = zeros-first (length (now (s .args .out)) + length (now (s .args .content))) mostWords (omega (arith, s .pre .few));
     }
 

@@ -11,7 +11,7 @@ use Rattle.polynomials.specs.IndexLaws.{filled-more}
 use Rattle.polynomials.specs.Lists.{coefficient}
 use Rattle.labels.specs.Labels.{cycle}
 use Rattle.labels.specs.Working.{powerAt}
-use Rattle.labels.specs.WordLaws.{filled-all}
+use Rattle.labels.specs.WordLaws.{filled-through}
 use Rattle.labels.specs.RootLaws.{table-size, exponent-next, exponent-power}
 use Rattle.labels.proofs.powers.fill_powers.Statement.{statement}
 use Rattle.labels.proofs.powers.fill_powers.Tie as tie
@@ -71,8 +71,7 @@ returns : tie.Need-returns Inv-loop μ-loop
 returns c =
     let a = c .before .before .args in
     let l = c .before .loop in
-    let all : l .i ≡ length (a .out .now) = omega (arith, l .inv .0, l .inv .3) in
-    l .inv .2 ∙ rw all (filled-all (powerAt (a .j)) (a .out .now))
+    filled-through (powerAt (a .j)) (now (a .out)) (l .out) (l .i) (omega (arith, l .inv .0, l .inv .3)) (l .inv .2)
 
 pub fill-powers-spec : {M : Type 1} → statement M
 fill-powers-spec =

@@ -1,6 +1,6 @@
 -- `subtract` meets its contract: after i turns the first i words stand less those that are taken away. Assumes nothing.
 use Prim.Native.Nat.{_-_, _≤_}
-use mathlib.Core.Path.{_≡_, refl, _∙_}
+use mathlib.Core.Path.{_≡_, refl}
 use native.Mathlib.Omega.{arith}
 use lib.ListN.{length, length-set}
 use denote.Ref.{now}
@@ -8,7 +8,7 @@ use borrow.Author.Needs.{needs}
 use Rattle.polynomials.specs.Indices.{filled}
 use Rattle.polynomials.specs.IndexLaws.{filled-more}
 use Rattle.polynomials.specs.Lists.{coefficient}
-use Rattle.labels.specs.WordLaws.{lessAt, still-there, filled-all}
+use Rattle.labels.specs.WordLaws.{lessAt, still-there, filled-through}
 use Rattle.labels.proofs.words.subtract.Statement.{statement}
 use Rattle.labels.proofs.words.subtract.Tie as tie
 
@@ -74,8 +74,7 @@ returns : tie.Need-returns Inv-loop μ-loop
 returns c =
     let a = c .before .before .before .before .args in
     let l = c .before .loop in
-    let all : l .i ≡ length (now (a .out)) = omega (arith, l .inv .2) in
-    l .inv .1 ∙ rw all (filled-all (lessAt (now (a .out)) (now (a .xs))) (now (a .out)))
+    filled-through (lessAt (now (a .out)) (now (a .xs))) (now (a .out)) (l .out) (l .i) (omega (arith, l .inv .2)) (l .inv .1)
 
 pub subtract-spec : {M : Type 1} → statement M
 subtract-spec =
