@@ -1,0 +1,141 @@
+-- Pairs that are fed in calls, and closed. Assumes nothing; it names promises, and no function.
+--     FedTo r xs ys z m        feeding xs and ys to r, in one call, gives the record z and takes m pairs
+--     fed-to                   what a call gives that was taken
+--     fed-none                 no pairs change nothing
+--     fed-more                 two calls that were taken are one call with the lists joined
+--     fed-part                 so are the calls up to a place of the lists, and the one from there on
+--     fed-few                  there are no more pairs than coefficients
+--     sum-unset, sum-unfed     what keeps sum's promise: a refusal of the setting, or of feed
+--     sum-closed               and the closing of a fresh record that was fed
+use Prim.Native.Nat.{ℕ, _+_, _-_, _/_, _≤_, _<_}
+use mathlib.Core.Path.{_≡_, refl, sym, ap, subst, _∙_}
+use mathlib.Core.Bool.{false}
+use mathlib.Core.List.{List, [], _∷_, _++_, append-nil}
+use native.Mathlib.Nat.{zero-div, zero-mod, div-le-self}
+use native.Mathlib.Omega.{arith}
+use lib.ListN.{length, take, drop}
+use lib.Seq.{take-add, length-take-le}
+use Rattle.polynomials.specs.Blocks.{blocks}
+use Rattle.polynomials.specs.Lists.{Pair}
+use Rattle.packed.specs.Answers.{Answer, answered, refused, Verdict, fine, refuse, refuses, _andThen_, leftBy}
+use Rattle.packed.specs.AnswerLaws.{never, passed-first}
+use Rattle.packed.specs.Bounds.{bounds}
+use Rattle.packed.specs.Settings.{settingChecks, places}
+use Rattle.packed.specs.SharedAnswers.{shortCause}
+use Rattle.packed.specs.Running.{Coherent, afterPairs, fedPairs, feedChecks, takenSays, takenOf, keptBy, freshSum, recordOf, Freshens, Feeds, closedSays, Closes}
+use Rattle.packed.specs.Calls.{Call, Calls, ClosesTo, schoolbook}
+use Rattle.packed.specs.Feeding.{fedSum, Feeding}
+use Rattle.packed.specs.FeedLaws as inFeeds
+use Rattle.packed.specs.RunningChecks.{pairs-pass, feed-taken, Told, feed-told}
+use Rattle.packed.specs.DemandThree.{feed-joined, demand-3}
+use Rattle.packed.specs.declared.setting.Setting.{Setting}
+use Rattle.packed.specs.declared.setting.Checked.the-variants as inChecked
+use Rattle.packed.specs.declared.running.Sum.{Sum}
+use Rattle.packed.specs.declared.running.Record.{Record}
+use Rattle.packed.specs.declared.running.Begun.{Begun}
+use Rattle.packed.specs.declared.running.Fed.{Fed}
+use Rattle.packed.specs.declared.running.Taken.{Taken}
+use Rattle.packed.specs.declared.running.Taken.the-variants as inTaken
+use Rattle.packed.specs.declared.running.Closed.{Closed}
+use Rattle.exports.specs.Replies.{replyOf, closedReply}
+use Rattle.exports.specs.Exports.{sumChecks, GivesSum}
+
+abbrev pub FedTo : Record → List ℕ → List ℕ → Record → ℕ → Type 0
+FedTo r xs ys z m = Feeds r xs ys (record { running = z; answer = inTaken.Pairs m })
+
+pub fed-to : (r : Record) (xs ys : List ℕ) (f : Fed) (m : ℕ) → Feeds r xs ys f → f .answer ≡ inTaken.Pairs m → FedTo r xs ys (f .running) m
+fed-to r xs ys f m h e = (sym (ap takenSays e) ∙ h .0, h .1)
+
+after-none : (s : Setting) (u : Sum) (cs : List Pair) → length cs ≡ 0 → afterPairs s u cs ≡ u
+unfolding afterPairs
+after-none s u [] e = refl
+after-none s u (c ∷ cs) e = absurd (omega arith)
+
+pub fed-none : (r : Record) → Coherent (r .setting) (r .sum) → FedTo r [] [] r 0
+fed-none r h =
+    let s = r .setting in
+    let none : 0 / s .k ≡ 0 = zero-div (s .k) in
+    let below : (j : ℕ) → 0 < s .p = λ j. omega (arith, bounds s (h .accepted) .range .choice .p-low) in
+    let can : Feeding s (r .sum) [] [] = record {
+      coherent = h;
+      same-size = refl;
+      whole = zero-mod (s .k);
+      room = rw none (omega (arith, h .few));
+      left-below = below;
+      right-below = below;
+    } in
+    let same : r .sum ≡ fedSum s (r .sum) [] [] = sym (after-none s (r .sum) (fedPairs s [] []) (inFeeds.fed-count s [] [] ∙ none)) in
+    subst (λ (m : ℕ). FedTo r [] [] r m) none (feed-taken r [] [] (r .sum) (pairs-pass r [] [] can) same)
+
+-- a result that keeps feed's promise
+abbrev fedBy : Record → List ℕ → List ℕ → Fed
+fedBy r xs ys = record {
+  running = keptBy (feedChecks r xs ys) (recordOf (r .setting) (afterPairs (r .setting) (r .sum) (fedPairs (r .setting) xs ys))) r;
+  answer = takenOf (feedChecks r xs ys andThen answered (length xs / r .setting .k));
+}
+
+fed-by : (r : Record) (xs ys : List ℕ) → Feeds r xs ys (fedBy r xs ys)
+fed-by r xs ys = (says-of (feedChecks r xs ys andThen answered (length xs / r .setting .k)), refl)
+  where
+    says-of : (a : Answer ℕ) → takenSays (takenOf a) ≡ a
+    says-of (answered m) = refl
+    says-of (refused number place) = refl
+
+module _ (r : Record) (xs ys : List ℕ) (z : Record) (m : ℕ) (fed : FedTo r xs ys z m) where
+  told : Told r xs ys (record { running = z; answer = inTaken.Pairs m })
+  told = feed-told r xs ys (record { running = z; answer = inTaken.Pairs m }) fed refl
+
+  count : m ≡ length xs / r .setting .k
+  count = let took = told .took in cc
+
+  pub fed-few : m ≤ length xs
+  fed-few = rw count (div-le-self (length xs) (r .setting .k))
+
+  setting-kept : z .setting ≡ r .setting
+  setting-kept = ap (λ (r : Record). r .setting) (told .after)
+
+pub fed-more : (r : Record) (xs ys us vs : List ℕ) (z w : Record) (m l : ℕ) → FedTo r xs ys z m → FedTo z us vs w l → FedTo r (xs ++ us) (ys ++ vs) w (m + l)
+fed-more r xs ys us vs z w m l first second =
+    let f : Fed = record { running = z; answer = inTaken.Pairs m } in
+    let g : Fed = record { running = w; answer = inTaken.Pairs l } in
+    let all = feed-joined r xs ys us vs f g (fedBy r (xs ++ us) (ys ++ vs)) first refl second refl (fed-by r (xs ++ us) (ys ++ vs)) in
+    let pairs : length xs / r .setting .k + length us / r .setting .k ≡ m + l = rw (count r xs ys z m first, count z us vs w l second, setting-kept r xs ys z m first) in
+    subst (λ (n : ℕ). FedTo r (xs ++ us) (ys ++ vs) w n) pairs (subst (Feeds r (xs ++ us) (ys ++ vs)) all (fed-by r (xs ++ us) (ys ++ vs)))
+
+pub fed-part : (r : Record) (xs ys : List ℕ) (i j : ℕ) (z w : Record) (m l : ℕ) → i ≤ j → FedTo r (take i xs) (take i ys) z m → FedTo z (take (j - i) (drop i xs)) (take (j - i) (drop i ys)) w l
+    → FedTo r (take j xs) (take j ys) w (m + l)
+fed-part r xs ys i j z w m l order first second =
+    let all : i + (j - i) ≡ j = omega arith in
+    let parts : (zs : List ℕ) → take i zs ++ take (j - i) (drop i zs) ≡ take j zs = λ zs. sym (take-add i (j - i) zs) ∙ rw all in
+    rw (parts xs, parts ys) at (fed-more r (take i xs) (take i ys) (take (j - i) (drop i xs)) (take (j - i) (drop i ys)) z w m l first second)
+
+-- ---- sum
+
+refused-first : (v : Verdict) (m number place : ℕ) → (v andThen answered m) ≡ refused number place → v ≡ refused number place
+refused-first (answered u) m number place e = absurd (never number place m (sym e))
+refused-first (refused n i) m number place e = cc
+
+module _ (s : Setting) (xs ys old : List ℕ) where
+  abbrev start : Record
+  start = recordOf s freshSum
+
+  pub sum-unset : (number place : ℕ) → settingChecks s ≡ refused number place → GivesSum s xs ys old (replyOf (refused number place)) old
+  unfolding sumChecks
+  sum-unset number place e = (rw e, rw e)
+
+  module _ (ok : settingChecks s ≡ fine) (f : Fed) (fed : Feeds start xs ys f) where
+    pub sum-unfed : (number place : ℕ) → takenSays (f .answer) ≡ refused number place → GivesSum s xs ys old (replyOf (refused number place)) old
+    unfolding sumChecks
+    sum-unfed number place e =
+        let why : feedChecks start xs ys ≡ refused number place = refused-first (feedChecks start xs ys) (length xs / s .k) number place (sym (fed .0) ∙ e) in
+        (rw (ok, why), rw (ok, why))
+
+    pub sum-closed : (m : ℕ) (a : Closed) (after : List ℕ) → takenSays (f .answer) ≡ answered m → Closes (f .running) old a after → GivesSum s xs ys old (closedReply a) after
+    unfolding sumChecks
+    sum-closed m a after took closes =
+        let taken : feedChecks start xs ys ≡ fine = passed-first (feedChecks start xs ys) (answered (length xs / s .k)) m (sym (fed .0) ∙ took) .0 in
+        let begun : Begun = record { running = start; answer = inChecked.Accepted } in
+        let call : Call = record { left = xs; right = ys; gave = f } in
+        let closing = demand-3 s ok begun (sym ok, refl) (call ∷ []) (f .running) (fed, rw took, refl) .closing old after a closes in
+        let all : ClosesTo s (fedPairs s xs ys) old a after = rw (append-nil xs, append-nil ys) at closing in
+        (rw (ok, taken) (ap replyOf (all .0)), rw (ok, taken) (all .1))

@@ -1,0 +1,104 @@
+// What the exported functions give: the number of a refusal, or 0 where nothing was refused; its place; and the value, which is 0 beside a refusal.
+ghost use mathlib.Core.Path.{_≡_};
+ghost use Rattle.packed.specs.Answers.{answered, refused};
+ghost use Rattle.exports.specs.Replies.{replyOf, laneReplyOf, chosenReply, packedReply, wroteReply, closedReply, laneReply};
+use lane::LaneAnswer;
+use packed::answers::Packed;
+use packed::answers::Wrote;
+use packed::refusals::Refusal;
+use packed::running::Closed;
+use packed::setting::Chosen;
+
+#[repr(C)]
+pub struct Reply {
+    pub number: u64,
+    pub place: u64,
+    pub value: u64,
+}
+
+// Of the double lane.
+#[repr(C)]
+pub struct LaneReply {
+    pub number: u64,
+    pub place: u64,
+    pub value: f64,
+}
+
+pub(crate) fn of_chosen(answer: Chosen) -> Reply
+    ensures { λ r. ⌜ r ≡ chosenReply answer ⌝ }
+{
+    match answer {
+        Chosen::Width(t) => of_value(t),
+        Chosen::Refused(r) => of_refusal(r),
+    }
+}
+
+pub(crate) fn of_packed(answer: Packed) -> Reply
+    ensures { λ r. ⌜ r ≡ packedReply answer ⌝ }
+{
+    match answer {
+        Packed::Word(w) => of_value(w),
+        Packed::Refused(r) => of_refusal(r),
+    }
+}
+
+pub(crate) fn of_wrote(answer: Wrote) -> Reply
+    ensures { λ r. ⌜ r ≡ wroteReply answer ⌝ }
+{
+    match answer {
+        Wrote::Count(m) => of_value(m as u64),
+        Wrote::Refused(r) => of_refusal(r),
+    }
+}
+
+pub(crate) fn of_closed(answer: Closed) -> Reply
+    ensures { λ r. ⌜ r ≡ closedReply answer ⌝ }
+{
+    match answer {
+        Closed::Reductions(m) => of_value(m),
+        Closed::Refused(r) => of_refusal(r),
+    }
+}
+
+pub(crate) fn of_lane(answer: LaneAnswer) -> LaneReply
+    ensures { λ r. ⌜ r ≡ laneReply answer ⌝ }
+{
+    match answer {
+        LaneAnswer::Word(x) => LaneReply {
+            number: 0,
+            place: 0,
+            value: x,
+        },
+        LaneAnswer::Refused(r) => lane_of_refusal(r),
+    }
+}
+
+fn of_value(value: u64) -> Reply
+    ensures { λ r. ⌜ r ≡ replyOf (answered value) ⌝ }
+{
+    Reply {
+        number: 0,
+        place: 0,
+        value: value,
+    }
+}
+
+pub(crate) fn of_refusal(why: Refusal) -> Reply
+    ensures { λ r. ⌜ r ≡ replyOf (refused (why .number) (why .place)) ⌝ }
+{
+    Reply {
+        number: why.number,
+        place: why.place,
+        value: 0,
+    }
+}
+
+pub(crate) fn lane_of_refusal(why: Refusal) -> LaneReply
+    ensures { λ r. ⌜ r ≡ laneReplyOf (refused (why .number) (why .place)) ⌝ }
+{
+    LaneReply {
+        number: why.number,
+        place: why.place,
+        value: 0.0,
+    }
+}
