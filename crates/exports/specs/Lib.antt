@@ -2,3 +2,4 @@
 pub mod Replies
 pub mod Exports
 pub mod SumLaws
+pub mod NumberLaws
