@@ -5,21 +5,25 @@
 --     header-bytes         one by one, as a word's bytes are cut off
 --     table-parts          the table is the header and then the entries
 --     table-length         8 + p^2 bytes
---     byte-made            so its bytes are made from the header's and from entries for which the base is known modulo p
+--     byte-made            so byte i is the header's, or past it entry i - 8, for which the base is known modulo p
 --     word-room, word-made what is looked up among the entries packs to the reduced word, for which a word has room
-use Prim.Native.Nat.{ℕ, _+_, _*_, _/_, _%_, _^_, _≤_, _<_}
-use mathlib.Core.Path.{_≡_, refl, ap, _∙_, fun-ext}
+use Prim.Native.Nat.{ℕ, _+_, _-_, _*_, _/_, _%_, _^_, _≤_, _<_}
+use mathlib.Core.Path.{_≡_, refl, sym, ap, _∙_}
 use mathlib.Core.List.{List, [], _∷_, _++_}
 use native.Mathlib.Nat.{mul-le-mul, div-one, lt-of-le-of-lt}
+use native.Mathlib.Decide.{decLt}
 use native.Mathlib.Omega.{arith}
-use lib.ListN.{length}
+use lib.Dec.{ltb}
+use lib.ListN.{length, List·getD-append}
 use lib.Pow.{pow-pos}
-use Rattle.polynomials.specs.Indices.{upto}
-use Rattle.polynomials.specs.IndexLaws.{length-upto}
+use borrow.Author.Tests.{lt-ltb, le-ltb}
+use Rattle.polynomials.specs.Indices.{pick, upto}
+use Rattle.polynomials.specs.IndexLaws.{length-upto, upto-at}
 use Rattle.polynomials.specs.Lists.{coefficient}
+use Rattle.polynomials.specs.ListLaws.{coefficient-after}
 use Rattle.polynomials.specs.Places.{packed, reduced, entry, lookedUp}
 use Rattle.polynomials.specs.ReductionLaws.{reduced-most}
-use Rattle.polynomials.specs.TableLaws.{entry-base, looked-up-word}
+use Rattle.polynomials.specs.TableLaws.{entry-base, Stands, looked-up-word}
 use Rattle.layout.specs.Numbers.{bigEndian}
 use Rattle.packed.specs.Limits.{largestTableModulus, wordBits}
 use Rattle.packed.specs.Settings.{base, places}
@@ -50,11 +54,18 @@ table-parts p t = rw (body-length p t)
 pub table-length : (p t : ℕ) → length (table p t) ≡ tableSize p
 table-length p t = ap length (table-parts p t) ∙ omega (arith, length-upto (p * p) (entry p (2 ^ t)))
 
-pub byte-made : (p t b i byte : ℕ) (head : List ℕ) → head ≡ header p t → b ≡ 2 ^ t → byte ≡ coefficient (head ++ upto (p * p) (entry p (b % p))) i
-    → byte ≡ coefficient (table p t) i
-byte-made p t b i byte head h e is =
-    let made : head ++ upto (p * p) (entry p (b % p)) ≡ table p t = rw (h, e, table-parts) (ap (λ (f : ℕ → ℕ). header p t ++ upto (p * p) f) (fun-ext (entry-base p (2 ^ t)))) in
-    is ∙ ap (λ (l : List ℕ). coefficient l i) made
+pub byte-made : {p b u x byte : ℕ} {head : List ℕ} (t i : ℕ) → head ≡ header p t → b ≡ 2 ^ t → i < tableSize p → Stands p (b % p) (i - headerSize) u x
+    → byte ≡ pick (ltb i headerSize) (coefficient head i) x → byte ≡ coefficient (table p t) i
+byte-made {p = p} {x = x} t i h e inside s is = is ∙ rw (h, table-parts p t) (go (decLt i headerSize))
+  where
+    value : x ≡ entry p (2 ^ t) (i - headerSize)
+    value = s .value ∙ rw e (entry-base p (2 ^ t) (i - headerSize))
+
+    go : Dec (i < headerSize) → pick (ltb i headerSize) (coefficient (header p t) i) x ≡ coefficient (header p t ++ entries p t) i
+    go (yes l) = rw (lt-ltb i headerSize l) (sym (List·getD-append (header p t) (entries p t) 0 i l))
+    go (no l) =
+        rw (le-ltb i headerSize (omega arith), value)
+        (sym (coefficient-after (header p t) (entries p t) i (omega arith) ∙ upto-at (p * p) (entry p (2 ^ t)) (i - headerSize) (omega arith)))
 
 module _ (s : Setting) (held : List ℕ) (m w : ℕ) (p-pos : 0 < s .p) (own : held ≡ entries (s .p) (s .t)) where
   -- what is looked up is the residues

@@ -1,12 +1,13 @@
 // A correction table's bytes, and what is looked up among its entries. As in `words`, nothing is refused here: each function states what
 // it assumes.
 ghost use mathlib.Core.Path.{_≡_};
-ghost use mathlib.Core.List.{_++_};
-ghost use Prim.Native.Nat.{_-_, _*_, _^_, _<_, _≤_};
+ghost use Prim.Native.Nat.{ℕ, _+_, _-_, _*_, _%_, _^_, _<_, _≤_};
+ghost use lib.Dec.{ltb};
 ghost use lib.ListN.{length};
-ghost use Rattle.polynomials.specs.Indices.{upto, filled};
+ghost use Rattle.polynomials.specs.Indices.{pick, upto, filled};
 ghost use Rattle.polynomials.specs.Lists.{coefficient};
-ghost use Rattle.polynomials.specs.Places.{packed, entry, lookedUp};
+ghost use Rattle.polynomials.specs.Places.{packed, lookedUp};
+ghost use Rattle.polynomials.specs.TableLaws.{Stands};
 ghost use Rattle.layout.specs.Beginnings.{firstDifference};
 ghost use Rattle.packed.specs.Limits.{largestModulus, largestTableModulus, wordBits};
 ghost use Rattle.packed.specs.Bounds.{Bounds};
@@ -20,6 +21,12 @@ use crate::words::power;
 pub const HEADER_SIZE: usize = 8;
 
 const VERSION: u8 = 1;
+
+// An entry u + p v of the table: its u, and its value.
+struct Entry {
+    u: u64,
+    value: u64,
+}
 
 // 8 + p^2
 pub fn table_size(p: u64) -> usize
@@ -37,9 +44,11 @@ pub fn write_table(p: u64, t: u64, out: &mut [u8])
     let end = table_size(p);
     let head = header_bytes(p, t);
     let q = power(t) % p;
+    let mut at = Entry { u: 0, value: 0 };
     let mut i = 0;
     while i < end {
-        out[i] = table_byte(p, q, head, i);
+        out[i] = table_byte(head, i, at.value);
+        at = following(p, q, i, at);
         i += 1;
     }
 }
@@ -52,28 +61,70 @@ pub fn first_difference(p: u64, t: u64, buffer: &[u8]) -> usize
     let size = table_size(p);
     let head = header_bytes(p, t);
     let q = power(t) % p;
+    let mut at = Entry { u: 0, value: 0 };
     let mut i = 0;
     while i < size {
         if buffer.len() <= i {
             return i;
         }
-        if buffer[i] != table_byte(p, q, head, i) {
+        if buffer[i] != table_byte(head, i, at.value) {
             return i;
         }
+        at = following(p, q, i, at);
         i += 1;
     }
     i
 }
 
-// Byte i: of the header, or past it an entry.
-fn table_byte(p: u64, q: u64, head: [u8; HEADER_SIZE], i: usize) -> u8
-    requires { ⌜ (0 < p) × (p ≤ largestTableModulus) × (q < p) × (length head ≡ headerSize) × (i < tableSize p) ⌝ }
-    ensures { λ r. ⌜ r ≡ coefficient (head ++ upto (p * p) (entry p q)) i ⌝ }
+// Byte i: of the header, or past it the entry's value.
+fn table_byte(head: [u8; HEADER_SIZE], i: usize, value: u64) -> u8
+    requires { ⌜ (length head ≡ headerSize) × (value < 256) ⌝ }
+    ensures { λ r. ⌜ r ≡ pick (ltb i headerSize) (coefficient head i) value ⌝ }
 {
     if i < HEADER_SIZE {
         return head[i];
     }
-    table_entry(p, q, (i - HEADER_SIZE) as u64)
+    value as u8
+}
+
+// The entry for byte i + 1, after the one for byte i: up to the header's end it is the first one still.
+fn following(p: u64, q: u64, i: usize, at: Entry) -> Entry
+    requires { ⌜ (q < p) × (p ≤ largestTableModulus) × (Stands p q (i - headerSize) (at .u) (at .value)) ⌝ }
+    ensures { λ r. ⌜ Stands p q (i + 1 - headerSize) (r .u) (r .value) ⌝ }
+{
+    if i < HEADER_SIZE {
+        return at;
+    }
+    next_entry(p, q, at)
+}
+
+// The entry that follows: one more modulo p, and q less where u begins anew. Instead of q, which is to be taken away, p - q is added.
+fn next_entry(p: u64, q: u64, at: Entry) -> Entry
+    requires { ⌜ (q < p) × (p ≤ largestTableModulus) × (at .u < p) × (at .value < p) ⌝ }
+    ensures { λ r. ⌜ ((j : ℕ) → Stands p q j (at .u) (at .value) → Stands p q (j + 1) (r .u) (r .value)) ⌝ }
+{
+    let more = wrapped(p, at.value + 1);
+    if at.u + 1 < p {
+        return Entry {
+            u: at.u + 1,
+            value: more,
+        };
+    }
+    Entry {
+        u: 0,
+        value: wrapped(p, more + (p - q)),
+    }
+}
+
+// x modulo p, for an x below 2p.
+fn wrapped(p: u64, x: u64) -> u64
+    requires { ⌜ x < p + p ⌝ }
+    ensures { λ r. ⌜ (r ≡ x % p) × (r < p) ⌝ }
+{
+    if x < p {
+        return x;
+    }
+    x - p
 }
 
 // Four bytes of how many follow, the version, two of p, one of t, the highest byte of a number first.
@@ -92,14 +143,6 @@ fn header_bytes(p: u64, t: u64) -> [u8; HEADER_SIZE]
         (p % 256) as u8,
         (t % 256) as u8,
     ]
-}
-
-// Entry j = u + p v: (u - q v) mod p. Instead of q v, which is to be taken away, (p - q) v is added.
-fn table_entry(p: u64, q: u64, j: u64) -> u8
-    requires { ⌜ (0 < p) × (p ≤ largestTableModulus) × (q < p) ⌝ }
-    ensures { λ r. ⌜ r ≡ entry p q j ⌝ }
-{
-    ((j % p + (p - q) * (j / p)) % p) as u8
 }
 
 // Every word reduced by the setting's own entries.

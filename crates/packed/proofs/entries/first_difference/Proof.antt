@@ -8,18 +8,20 @@ use denote.Ref.{now}
 use Rattle.polynomials.specs.Indices.{first}
 use Rattle.polynomials.specs.IndexLaws.{first-found, first-passed, first-ended}
 use Rattle.polynomials.specs.Lists.{coefficient}
+use Rattle.polynomials.specs.TableLaws.{Stands, stands-first, stands-below}
 use Rattle.layout.specs.Beginnings.{differs, firstDifference, differs-ended, differs-byte, agrees}
-use Rattle.packed.specs.Tables.{table, tableSize}
+use Rattle.packed.specs.Tables.{table, headerSize, tableSize}
 use Rattle.packed.specs.TableLaws.{table-length, byte-made}
 use borrow.Author.Needs.{needs}
 use Rattle.packed.proofs.entries.first_difference.Statement.{statement}
 use Rattle.packed.proofs.entries.first_difference.Tie as tie
 
 abbrev Inv-loop : tie.InvT-loop
-Inv-loop p t buffer size head q i₀ i = (i ≤ tableSize p) × (firstDifference buffer (table p t) ≡ first (differs buffer (table p t)) (tableSize p - i) i)
+Inv-loop p t buffer size head q at₀ i₀ at i =
+    (i ≤ tableSize p) × (firstDifference buffer (table p t) ≡ first (differs buffer (table p t)) (tableSize p - i) i) × Stands p q (i - headerSize) (at .u) (at .value)
 
 abbrev μ-loop : tie.MeasureT-loop
-μ-loop p t buffer size head q i₀ i = tableSize p - i
+μ-loop p t buffer size head q at₀ i₀ at i = tableSize p - i
 
 table-size-requires : tie.Need-table-size-requires Inv-loop μ-loop
 table-size-requires c κs = search needs
@@ -34,7 +36,7 @@ rem-q : tie.Need-rem-q Inv-loop μ-loop
 rem-q c = search needs
 
 loop-holds : tie.Need-loop-holds Inv-loop μ-loop
-loop-holds c = (omega arith, rw (sub-zero, table-length))
+loop-holds c = (omega arith, rw (sub-zero, table-length), stands-first)
 
 returns : tie.Need-returns Inv-loop μ-loop
 returns c =
@@ -47,20 +49,24 @@ shared-slice-read-if2 c = search needs
 
 table-byte-requires : tie.Need-table-byte-requires Inv-loop μ-loop
 table-byte-requires c κs =
-    let pre = c .before .before .before .before .before .before .before .before .pre in
-    (pre .0, pre .1, mod-lt (c .before .before .before .before .power .result) (pre .0), ap length (c .before .before .before .before .before .header-bytes .ensures), omega arith)
+    let below = stands-below (c .before .before .before .before .before .before .before .before .pre .0) (c .before .before .before .loop .inv .2) in
+    (ap length (c .before .before .before .before .before .header-bytes .ensures), omega arith)
 
 -- what the buffer is compared with
 byte : (c : tie.After-table-byte Inv-loop μ-loop) → c .table-byte .result ≡ coefficient (table (c .before .before .before .before .before .before .before .before .before .args .p) (c .before .before .before .before .before .before .before .before .before .args .t)) (c .before .before .before .before .loop .i)
 byte c =
-    let a = c .before .before .before .before .before .before .before .before .before .args in
-    byte-made (a .p) (a .t) (c .before .before .before .before .before .power .result) (c .before .before .before .before .loop .i) (c .table-byte .result) (c .before .before .before .before .before .before .header-bytes .result) (c .before .before .before .before .before .before .header-bytes .ensures) (c .before .before .before .before .before .power .ensures) (c .table-byte .ensures)
+    byte-made (c .before .before .before .before .before .before .before .before .before .args .t) (c .before .before .before .before .loop .i) (c .before .before .before .before .before .before .header-bytes .ensures) (c .before .before .before .before .before .power .ensures) (omega arith) (c .before .before .before .before .loop .inv .2) (c .table-byte .ensures)
 
 returns-2 : tie.Need-returns-2 Inv-loop μ-loop
 returns-2 c =
     let a = c .before .before .before .before .before .before .before .before .before .before .args in
     let l = c .before .before .before .before .before .loop in
     sym (l .inv .1 ∙ first-found (differs (now (a .buffer)) (table (a .p) (a .t))) (tableSize (a .p)) (l .i) (omega arith) (differs-byte (now (a .buffer)) (table (a .p) (a .t)) (l .i) (λ e. c .if2 .taken (e ∙ sym (byte (c .before))))))
+
+following-requires : tie.Need-following-requires Inv-loop μ-loop
+following-requires c κs =
+    let pre = c .before .before .before .before .before .before .before .before .before .before .pre in
+    (mod-lt (c .before .before .before .before .before .before .power .result) (pre .0), pre .1, c .before .before .before .before .before .loop .inv .2)
 
 add-i : tie.Need-add-i Inv-loop μ-loop
 add-i c = search needs
@@ -70,9 +76,11 @@ loop-less c = search needs
 
 loop-again : tie.Need-loop-again Inv-loop μ-loop
 loop-again c =
-    let a = c .before .before .before .before .before .before .before .before .before .before .args in
-    let l = c .before .before .before .before .before .loop in
-    (omega arith, l .inv .1 ∙ first-passed (differs (now (a .buffer)) (table (a .p) (a .t))) (tableSize (a .p)) (l .i) (omega arith) (agrees (now (a .buffer)) (table (a .p) (a .t)) (l .i) .1 (omega arith, c .if2 .left ∙ byte (c .before))))
+    let a = c .before .before .before .before .before .before .before .before .before .before .before .args in
+    let l = c .before .before .before .before .before .before .loop in
+    let same : coefficient (now (a .buffer)) (l .i) ≡ coefficient (table (a .p) (a .t)) (l .i) = c .before .if2 .left ∙ byte (c .before .before) in
+    let on = first-passed (differs (now (a .buffer)) (table (a .p) (a .t))) (tableSize (a .p)) (l .i) (omega arith) (agrees (now (a .buffer)) (table (a .p) (a .t)) (l .i) .1 (omega arith, same)) in
+    (omega arith, l .inv .1 ∙ on, c .following .ensures)
 
 returns-3 : tie.Need-returns-3 Inv-loop μ-loop
 returns-3 c =
@@ -94,6 +102,7 @@ first-difference-spec =
     shared-slice-read-if2
     table-byte-requires
     returns-2
+    following-requires
     add-i
     loop-less
     loop-again

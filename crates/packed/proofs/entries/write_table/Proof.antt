@@ -7,17 +7,19 @@ use lib.ListN.{length, length-set}
 use Rattle.polynomials.specs.Indices.{filled}
 use Rattle.polynomials.specs.IndexLaws.{filled-more}
 use Rattle.polynomials.specs.Lists.{coefficient}
-use Rattle.packed.specs.Tables.{table, tableSize}
+use Rattle.polynomials.specs.TableLaws.{Stands, stands-first, stands-below}
+use Rattle.packed.specs.Tables.{table, headerSize, tableSize}
 use Rattle.packed.specs.TableLaws.{byte-made}
 use borrow.Author.Needs.{needs}
 use Rattle.packed.proofs.entries.write_table.Statement.{statement}
 use Rattle.packed.proofs.entries.write_table.Tie as tie
 
 abbrev Inv-loop : tie.InvT-loop
-Inv-loop p t out₀ end head q i₀ out i = (i ≤ tableSize p) × (out ≡ filled i (coefficient (table p t)) out₀) × (length out ≡ length out₀)
+Inv-loop p t out₀ end head q at₀ i₀ out at i =
+    (i ≤ tableSize p) × (out ≡ filled i (coefficient (table p t)) out₀) × (length out ≡ length out₀) × Stands p q (i - headerSize) (at .u) (at .value)
 
 abbrev μ-loop : tie.MeasureT-loop
-μ-loop p t out₀ end head q i₀ out i = tableSize p - i
+μ-loop p t out₀ end head q at₀ i₀ out at i = tableSize p - i
 
 table-size-requires : tie.Need-table-size-requires Inv-loop μ-loop
 table-size-requires c κs = search needs
@@ -32,21 +34,25 @@ rem-q : tie.Need-rem-q Inv-loop μ-loop
 rem-q c = search needs
 
 loop-holds : tie.Need-loop-holds Inv-loop μ-loop
-loop-holds c = (omega arith, refl, refl)
+loop-holds c = (omega arith, refl, refl, stands-first)
 
 table-byte-requires : tie.Need-table-byte-requires Inv-loop μ-loop
 table-byte-requires c κs =
-    let pre = c .before .before .before .before .before .before .pre in
-    (pre .0, pre .1, mod-lt (c .before .before .power .result) (pre .0), ap length (c .before .before .before .header-bytes .ensures), omega arith)
+    let below = stands-below (c .before .before .before .before .before .before .pre .0) (c .before .loop .inv .3) in
+    (ap length (c .before .before .before .header-bytes .ensures), omega arith)
 
 -- what is written
 byte : (c : tie.After-table-byte Inv-loop μ-loop) → c .table-byte .result ≡ coefficient (table (c .before .before .before .before .before .before .before .args .p) (c .before .before .before .before .before .before .before .args .t)) (c .before .before .loop .i)
 byte c =
-    let a = c .before .before .before .before .before .before .before .args in
-    byte-made (a .p) (a .t) (c .before .before .before .power .result) (c .before .before .loop .i) (c .table-byte .result) (c .before .before .before .before .header-bytes .result) (c .before .before .before .before .header-bytes .ensures) (c .before .before .before .power .ensures) (c .table-byte .ensures)
+    byte-made (c .before .before .before .before .before .before .before .args .t) (c .before .before .loop .i) (c .before .before .before .before .header-bytes .ensures) (c .before .before .before .power .ensures) (omega arith) (c .before .before .loop .inv .3) (c .table-byte .ensures)
 
 slice-write-out : tie.Need-slice-write-out Inv-loop μ-loop
 slice-write-out c = search needs
+
+following-requires : tie.Need-following-requires Inv-loop μ-loop
+following-requires c κs =
+    let pre = c .before .before .before .before .before .before .before .pre in
+    (mod-lt (c .before .before .before .power .result) (pre .0), pre .1, c .before .before .loop .inv .3)
 
 add-i : tie.Need-add-i Inv-loop μ-loop
 add-i c = search needs
@@ -56,9 +62,11 @@ loop-less c = search needs
 
 loop-again : tie.Need-loop-again Inv-loop μ-loop
 loop-again c =
-    let a = c .before .before .before .before .before .before .before .args in
-    let l = c .before .before .loop in
-    (omega arith, filled-more (coefficient (table (a .p) (a .t))) (a .out .now) (l .out) (l .i) (c .table-byte .result) (omega (arith, c .before .before .before .before .before .before .before .pre .3)) (l .inv .1) (byte c), simp length-set (l .inv .2))
+    let b = c .before .before .before .before .before .before .before .before in
+    let a = b .args in
+    let l = c .before .before .before .loop in
+    let more = filled-more (coefficient (table (a .p) (a .t))) (a .out .now) (l .out) (l .i) (c .before .table-byte .result) (omega (arith, b .pre .3)) (l .inv .1) (byte (c .before)) in
+    (omega arith, more, simp length-set (l .inv .2), c .following .ensures)
 
 same-length : tie.Need-same-length Inv-loop μ-loop
 same-length c = c .before .loop .inv .2
@@ -81,6 +89,7 @@ write-table-spec =
     loop-holds
     table-byte-requires
     slice-write-out
+    following-requires
     add-i
     loop-less
     loop-again
