@@ -31,7 +31,6 @@ use Rattle.packed.specs.Running.{fedPairs, feedChecks, freshSum, recordOf}
 use Rattle.packed.specs.Calls.{schoolbook}
 use Rattle.lane.specs.Lanes as inLanes
 use Rattle.packed.specs.declared.setting.Setting.{Setting}
-use Rattle.packed.specs.declared.answers.Wrote.{Wrote}
 use Rattle.lane.specs.declared.Lane.{Lane}
 use Rattle.lane.specs.declared.Made.{Made}
 use Rattle.lane.specs.declared.Made.the-variants as inMade

@@ -9,21 +9,18 @@
 --     sum-closed               and the closing of a fresh record that was fed
 use Prim.Native.Nat.{ℕ, _+_, _-_, _/_, _≤_, _<_}
 use mathlib.Core.Path.{_≡_, refl, sym, ap, subst, _∙_}
-use mathlib.Core.Bool.{false}
 use mathlib.Core.List.{List, [], _∷_, _++_, append-nil}
 use native.Mathlib.Nat.{zero-div, zero-mod, div-le-self}
 use native.Mathlib.Omega.{arith}
 use lib.ListN.{length, take, drop}
-use lib.Seq.{take-add, length-take-le}
-use Rattle.polynomials.specs.Blocks.{blocks}
+use lib.Seq.{take-add}
 use Rattle.polynomials.specs.Lists.{Pair}
-use Rattle.packed.specs.Answers.{Answer, answered, refused, Verdict, fine, refuse, refuses, _andThen_, leftBy}
+use Rattle.packed.specs.Answers.{Answer, answered, refused, Verdict, fine, _andThen_}
 use Rattle.packed.specs.AnswerLaws.{never, passed-first}
 use Rattle.packed.specs.Bounds.{bounds}
-use Rattle.packed.specs.Settings.{settingChecks, places}
-use Rattle.packed.specs.SharedAnswers.{shortCause}
-use Rattle.packed.specs.Running.{Coherent, afterPairs, fedPairs, feedChecks, takenSays, takenOf, keptBy, freshSum, recordOf, Freshens, Feeds, closedSays, Closes}
-use Rattle.packed.specs.Calls.{Call, Calls, ClosesTo, schoolbook}
+use Rattle.packed.specs.Settings.{settingChecks}
+use Rattle.packed.specs.Running.{Coherent, afterPairs, fedPairs, feedChecks, takenSays, takenOf, keptBy, freshSum, recordOf, Feeds, Closes}
+use Rattle.packed.specs.Calls.{Call, ClosesTo}
 use Rattle.packed.specs.Feeding.{fedSum, Feeding}
 use Rattle.packed.specs.FeedLaws as inFeeds
 use Rattle.packed.specs.RunningChecks.{pairs-pass, feed-taken, Told, feed-told}
@@ -34,7 +31,6 @@ use Rattle.packed.specs.declared.running.Sum.{Sum}
 use Rattle.packed.specs.declared.running.Record.{Record}
 use Rattle.packed.specs.declared.running.Begun.{Begun}
 use Rattle.packed.specs.declared.running.Fed.{Fed}
-use Rattle.packed.specs.declared.running.Taken.{Taken}
 use Rattle.packed.specs.declared.running.Taken.the-variants as inTaken
 use Rattle.packed.specs.declared.running.Closed.{Closed}
 use Rattle.exports.specs.Replies.{replyOf, closedReply}

@@ -1,5 +1,5 @@
 -- `feed_in_calls` meets its contract: where the lists are cut, a call's coefficients are no more than all of them. Assumes nothing.
-use Prim.Native.Nat.{ℕ, _*_, _/_, _≤_, _<_}
+use Prim.Native.Nat.{ℕ, _*_, _/_, _≤_}
 use native.Mathlib.Nat.{mul-le-mul-right, mul-pos, div-add-mod'}
 use native.Mathlib.Omega.{arith}
 use lib.ListN.{length}

@@ -9,10 +9,6 @@ use borrow.Author.Needs.{needs}
 use Rattle.exports.specs.SumLaws.{FedTo, fed-none, fed-part, fed-few, fed-to}
 use Rattle.exports.proofs.calls.feed_steps.Statement.{statement}
 use Rattle.exports.proofs.calls.feed_steps.Tie as tie
-use Rattle.exports.proofs.calls.feed_steps.Reads as reads
-use Rattle.exports.proofs.calls.feed_steps.Lts as lts
-use Rattle.exports.proofs.calls.least.Reads as least-reads
-use Rattle.packed.proofs.running.feed.Reads as feed-reads
 
 abbrev Inv-loop : tie.InvT-loop
 Inv-loop running xs ys step so-far₀ pairs₀ at₀ so-far pairs at = (at ≤ length xs) × FedTo running (take at xs) (take at ys) so-far pairs
