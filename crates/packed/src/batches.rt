@@ -125,6 +125,7 @@ fn add_products(s: Setting, xs: &[u16], ys: &[u16], i: usize, count: usize, word
     }
 }
 
+// Two pairs a turn, so that what a turn costs is shared.
 fn add_words(
     p: u64,
     t: u64,
@@ -138,13 +139,25 @@ fn add_words(
     requires { ⌜ Multiplying p t k (now xs) (now ys) i count word ⌝ }
     ensures { λ r. ⌜ r ≡ word + products p t k (now (xs .entry)) (now (ys .entry)) i count ⌝ }
 {
-    let size = k as usize;
     let mut sum = word;
     let mut r = 0;
-    while r < count {
-        let at = (i + r) * size;
-        sum = sum + pack_taken(p, t, &xs[at..at + size]) * pack_taken(p, t, &ys[at..at + size]);
-        r += 1;
+    while r + 1 < count {
+        sum = add_pair(p, t, k, xs, ys, i + r, sum);
+        sum = add_pair(p, t, k, xs, ys, i + (r + 1), sum);
+        r += 2;
+    }
+    if r < count {
+        return add_pair(p, t, k, xs, ys, i + r, sum);
     }
     sum
+}
+
+// The word, and the product of pair j.
+fn add_pair(p: u64, t: u64, k: u64, xs: &[u16], ys: &[u16], j: usize, word: u64) -> u64
+    requires { ⌜ Multiplying p t k (now xs) (now ys) j 1 word ⌝ }
+    ensures { λ r. ⌜ r ≡ word + products p t k (now (xs .entry)) (now (ys .entry)) j 1 ⌝ }
+{
+    let size = k as usize;
+    let at = j * size;
+    word + pack_taken(p, t, &xs[at..at + size]) * pack_taken(p, t, &ys[at..at + size])
 }

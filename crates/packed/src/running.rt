@@ -1,5 +1,6 @@
 // The running record: pairs of polynomials are fed in calls of any size, and closing gives the sum of their products.
 ghost use mathlib.Core.Path.{_≡_};
+ghost use mathlib.Core.Bool.{false};
 ghost use Prim.Native.Nat.{_-_, _*_, _<_};
 ghost use Rattle.packed.specs.Settings.{checkedSays};
 ghost use Rattle.packed.specs.Bounds.{Bounds};
@@ -76,6 +77,12 @@ pub fn fresh(s: Setting) -> Begun
 pub fn feed(running: Record, xs: &[u16], ys: &[u16]) -> Fed
     ensures { λ r. ⌜ Feeds running (now (xs .entry)) (now (ys .entry)) r ⌝ }
 {
+    if record_cause(running) {
+        return Fed {
+            running: running,
+            answer: Taken::Refused(refusals::RECORD),
+        };
+    }
     if let Checked::Refused(r) = check_pairs(running, xs, ys) {
         return Fed {
             running: running,
@@ -115,13 +122,12 @@ pub fn close(running: Record, out: &mut [u16]) -> Closed
     Closed::Reductions(block_count(s.n, sum.total as usize) as u64)
 }
 
-// 12, 9, 13, 8.
+// 9, 13, 8, for a coherent record. 12 comes first and feed asks it itself: the record then stays in memory across that call, where read earlier it
+// would hold registers that the loops of add_pairs need.
 fn check_pairs(running: Record, xs: &[u16], ys: &[u16]) -> Checked
+    requires { ⌜ recordCause running ≡ false ⌝ }
     ensures { λ r. ⌜ checkedSays r ≡ pairChecks running (now (xs .entry)) (now (ys .entry)) ⌝ }
 {
-    if record_cause(running) {
-        return Checked::Refused(refusals::RECORD);
-    }
     let s = running.setting;
     if xs.len() != ys.len() {
         return Checked::Refused(refusals::SHAPE);
