@@ -36,19 +36,6 @@ use Rattle.exports.specs.Exports.{sumChecks}
 abbrev pub Never0 : {A : Type 0} → Answer A → Type 0
 Never0 a = (i : ℕ) → a ≡ refused 0 i → ⊥
 
-pub reply-0 : (a : Answer ℕ) → Never0 a → (replyOf a .number ≡ 0) ↔ (refuses a ≡ false)
-reply-0 (answered v) h = (λ e. refl, λ e. refl)
-reply-0 (refused number place) h = (λ e. absurd (h place (ap (λ (n : ℕ). refused n place) e)), λ e. absurd (true≢false e))
-
-pub lane-reply-0 : (a : Answer Float) → Never0 a → (laneReplyOf a .number ≡ 0) ↔ (refuses a ≡ false)
-lane-reply-0 (answered v) h = (λ e. refl, λ e. refl)
-lane-reply-0 (refused number place) h = (λ e. absurd (h place (ap (λ (n : ℕ). refused n place) e)), λ e. absurd (true≢false e))
-
--- checks, and then how many elements were written
-pub wrote-0 : (v : Verdict) (m : ℕ) → Never0 v → (replyOf (v andThen answered m) .number ≡ 0) ↔ (refuses v ≡ false)
-wrote-0 (answered u) m h = (λ e. refl, λ e. refl)
-wrote-0 (refused number place) m h = (λ e. absurd (h place (ap (λ (n : ℕ). refused n place) e)), λ e. absurd (true≢false e))
-
 -- ---- a value, a check, and checks before others
 
 value : {A : Type 0} (v : A) → Never0 (answered v)
@@ -61,6 +48,37 @@ check false number place h i e = value tt i e
 both : {A : Type 0} {v : Verdict} {a : Answer A} → Never0 v → Never0 a → Never0 (v andThen a)
 both {v = answered u} hv ha = ha
 both {v = refused number place} hv ha = λ i e. hv i (cc)
+
+-- ---- replies
+
+abbrev numberOf : {A : Type 0} → Answer A → ℕ
+numberOf (answered v) = 0
+numberOf (refused number place) = number
+
+number-0 : {A : Type 0} (a : Answer A) → Never0 a → (numberOf a ≡ 0) ↔ (refuses a ≡ false)
+number-0 (answered v) h = (λ e. refl, λ e. refl)
+number-0 (refused number place) h = (λ e. absurd (h place (ap (λ (n : ℕ). refused n place) e)), λ e. absurd (true≢false e))
+
+pub reply-0 : (a : Answer ℕ) → Never0 a → (replyOf a .number ≡ 0) ↔ (refuses a ≡ false)
+reply-0 a h = rw (same a) (number-0 a h)
+  where
+    same : (a : Answer ℕ) → replyOf a .number ≡ numberOf a
+    same (answered v) = refl
+    same (refused number place) = refl
+
+pub lane-reply-0 : (a : Answer Float) → Never0 a → (laneReplyOf a .number ≡ 0) ↔ (refuses a ≡ false)
+lane-reply-0 a h = rw (same a) (number-0 a h)
+  where
+    same : (a : Answer Float) → laneReplyOf a .number ≡ numberOf a
+    same (answered x) = refl
+    same (refused number place) = refl
+
+pub wrote-0 : (v : Verdict) (m : ℕ) → Never0 v → (replyOf (v andThen answered m) .number ≡ 0) ↔ (refuses v ≡ false)
+wrote-0 v m h = rw (same v) at (reply-0 (v andThen answered m) (both h (value m)))
+  where
+    same : (v : Verdict) → refuses (v andThen answered m) ≡ refuses v
+    same (answered u) = refl
+    same (refused number place) = refl
 
 -- ---- the library's checks
 
