@@ -1,5 +1,5 @@
-// Runs the functions that programs in C and Rust call, on document 01's examples and on an input for each refusal that they give but 13 of a sum, and
-// prints number, place and value of what came. Lists are lent with sevens in them, and printed as far as they were lent. A sum is asked for with calls of
+// Runs the functions that programs in C and Rust call, on document 01's examples, on an input for each refusal that they give past the setting's but 13 of
+// a sum, and on some refused settings, and prints number, place and value of what came. Lists are lent with sevens in them, and printed as far as they were lent. A sum is asked for with calls of
 // several sizes.
 use exports::replies::LaneReply;
 use exports::replies::Reply;
