@@ -3,7 +3,7 @@
 --                      sums: of sums; from the last term to the first; term by term no more
 --     unlike-most      where a place that is alike makes another alike, the second counts no more among those that differ
 --     Cancels p x      x is no factor of 0: if c x is 0 modulo p, c is
---     some p c i       1 where weight i is not 0 modulo p, and 0 where it is
+--     weighs p c i     1 where weight i is not 0 modulo p, and 0 where it is
 --     count p n c      how many of the first n weights are not
 --     minus-itself, sum-minus
 --                      a number less itself; where two sums of weighted numbers are 0 modulo p, so is that of the differences of their weights
@@ -89,11 +89,11 @@ unlike-most a b c d h = go (eqb a b) refl (eqb c d) refl
 abbrev pub Cancels : ℕ → ℕ → Type 0
 Cancels p x = (c : ℕ) → c * x % p ≡ 0 → c % p ≡ 0
 
-abbrev pub some : ℕ → (ℕ → ℕ) → ℕ → ℕ
-some p c i = pick (eqb (c i % p) 0) 0 1
+abbrev pub weighs : ℕ → (ℕ → ℕ) → ℕ → ℕ
+weighs p c i = pick (eqb (c i % p) 0) 0 1
 
 abbrev pub count : ℕ → ℕ → (ℕ → ℕ) → ℕ
-count p n c = sumTo n (some p c)
+count p n c = sumTo n (weighs p c)
 
 abbrev pub Independent : ℕ → ℕ → (ℕ → ℕ) → ℕ → Type 0
 Independent p n x t = (c : ℕ → ℕ) → count p n c ≤ t → ((j : ℕ) → 1 ≤ j → j ≤ t → sumTo n (λ i. c i * x i ^ j) % p ≡ 0) → (i : ℕ) → i < n → c i % p ≡ 0
@@ -116,7 +116,7 @@ factor-none p a b h = rw (mul-comm a b, ← mul-mod b a p, h, mul-zero) (zero-mo
 
 module _ (p n : ℕ) (c : ℕ → ℕ) where
   none-counted : count p n c ≤ 0 → (i : ℕ) → i < n → c i % p ≡ 0
-  none-counted few i l = eqb-true (c i % p) 0 (go (eqb (c i % p) 0) (term-most n (some p c) i l))
+  none-counted few i l = eqb-true (c i % p) 0 (go (eqb (c i % p) 0) (term-most n (weighs p c) i l))
     where
       go : (b : Bool) → pick b 0 1 ≤ count p n c → b ≡ true
       go true most = refl
@@ -125,9 +125,9 @@ module _ (p n : ℕ) (c : ℕ → ℕ) where
   module _ (d : ℕ → ℕ) (still : (i : ℕ) → c i % p ≡ 0 → d i % p ≡ 0) where
     count-less : (k : ℕ) → k < n → 0 < c k % p → d k % p ≡ 0 → count p n d < count p n c
     count-less k l before now =
-        let was : some p c k ≡ 1 = rw (ne-eqb (c k % p) 0 (λ e. omega arith)) in
-        let is : some p d k ≡ 0 = rw (eq-eqb (d k % p) 0 now) in
-        sum-less n (some p d) (some p c) k l (omega arith) (λ i l. unlike-most (c i % p) 0 (d i % p) 0 (still i))
+        let was : weighs p c k ≡ 1 = rw (ne-eqb (c k % p) 0 (λ e. omega arith)) in
+        let is : weighs p d k ≡ 0 = rw (eq-eqb (d k % p) 0 now) in
+        sum-less n (weighs p d) (weighs p c) k l (omega arith) (λ i l. unlike-most (c i % p) 0 (d i % p) 0 (still i))
 
 module _ (p n : ℕ) (x : ℕ → ℕ) (big : 1 < p) (each : (i : ℕ) → i < n → Cancels p (x i))
     (apart : (i k : ℕ) → i < n → k < n → (i ≡ k → ⊥) → Cancels p (x i + (p - x k % p))) where

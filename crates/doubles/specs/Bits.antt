@@ -14,7 +14,7 @@ use lib.Ieee.{Float, nan, inf, fin, binary64, up, down, ne, toBits, isNan, fits}
 use lib.Ieee.Bits.{ofBits-toBits}
 use lib.Ieee.Exact.{HasValue}
 use lib.Ieee.Scale.{grid}
-use Rattle.doubles.specs.Whole.{exactBelow, double, inverse, largestDivisor, differs}
+use Rattle.doubles.specs.Whole.{exactBelow, double, inverse, largestDivisor, differsInBits}
 use Rattle.doubles.specs.Exactly.{held, held-value}
 use Rattle.doubles.specs.Error.{unit}
 use Rattle.doubles.specs.Near.{inverse-value}
@@ -29,14 +29,14 @@ double-number n h = value-number (double n) n 1 (held-value (held n h))
 pub inverse-number : (p : ℕ) → 0 < p → p ≤ largestDivisor → isNan (inverse p) ≡ false
 inverse-number p P m = value-number (inverse p) (grid binary64 1 p) unit (inverse-value p P m)
 
-pub same-bits : (x y : Float) → T (fits binary64 x) → T (fits binary64 y) → differs x y ≡ false → x ≡ y
+pub same-bits : (x y : Float) → T (fits binary64 x) → T (fits binary64 y) → differsInBits x y ≡ false → x ≡ y
 same-bits x y f g e =
     let a : ℕ = toBits binary64 x in
     let b : ℕ = toBits binary64 y in
     let same : a ≡ b = eqb-true a b (not-false (eqb a b) (or-eq-false-eq-eq-false-and-eq-false (isNan x) (not (eqb a b)) .0 e .1)) in
     sym (ofBits-toBits binary64 x f) ∙ rw same (ofBits-toBits binary64 y g)
 
-pub no-difference : (x : Float) → isNan x ≡ false → differs x x ≡ false
+pub no-difference : (x : Float) → isNan x ≡ false → differsInBits x x ≡ false
 no-difference x h = rw (h, eq-eqb (toBits binary64 x) (toBits binary64 x) refl)
 
 pub not-itself : (x : Float) → ne x x ≡ isNan x

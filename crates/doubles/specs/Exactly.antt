@@ -19,7 +19,7 @@ use lib.Ieee.{Float, binary64, add, sub, mul, lt, ofInt, ofBits, inFloat, inUnsi
 use lib.Ieee.Back.{round-whole, unsigned-back, float-back-unsigned}
 use lib.Ieee.Bits.{is-true}
 use lib.Ieee.Exact.{HasValue}
-use Rattle.doubles.specs.Whole.{exactBelow, double, number, isWhole, Held, Exact}
+use Rattle.doubles.specs.Whole.{exactBelow, double, wholePart, isWhole, Held, Exact}
 use Rattle.doubles.specs.Rounded.{mul-round, add-round, sub-round, lt-values}
 
 pub held : (n : ℕ) → n < exactBelow → Held (double n) n
@@ -34,10 +34,10 @@ unfolding inFloat
 may-hold n h = le→leb n exactBelow (le-of-lt h)
 
 -- as a double and back
-back : {x : Float} {n : ℕ} → Held x n → T (inUnsigned binary64 64 x) × (number x ≡ n)
+back : {x : Float} {n : ℕ} → Held x n → T (inUnsigned binary64 64 x) × (wholePart x ≡ n)
 back {x} {n} h = rw (h .is) (unsigned-back binary64 64 n (may-hold n (h .below)) (omega arith))
 
-pub held-number : {x : Float} {n : ℕ} → Held x n → number x ≡ n
+pub held-number : {x : Float} {n : ℕ} → Held x n → wholePart x ≡ n
 held-number h = back h .1
 
 pub held-exact : {x : Float} {n : ℕ} → Held x n → Exact x
@@ -46,7 +46,7 @@ held-exact h = rw (held-number h) h
 pub held-whole : {x : Float} {n : ℕ} → Held x n → isWhole x ≡ true
 held-whole {x} h = is-true (isWhole x) (back h .0)
 
-pub whole-held : (x : Float) → T (fits binary64 x) → isWhole x ≡ true → number x < exactBelow → Exact x
+pub whole-held : (x : Float) → T (fits binary64 x) → isWhole x ≡ true → wholePart x < exactBelow → Exact x
 whole-held x f w h = record { is = sym (float-back-unsigned binary64 64 x f (rw w tt) .1); below = h }
 
 pub plus-held : {x y : Float} {a b : ℕ} → Held x a → Held y b → a + b < exactBelow → Held (add binary64 x y) (a + b)

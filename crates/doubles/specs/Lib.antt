@@ -2,7 +2,7 @@
 pub mod Whole
 pub mod Rounded
 pub mod Exactly
-pub mod Within
+pub mod Between
 pub mod Error
 pub mod Near
 pub mod Quotients

@@ -1,6 +1,6 @@
 -- The rounded product of a whole number x with what 1.0 / p gives is near the quotient x / p. Assumes nothing.
 --     inverse-value     what 1.0 / p gives, as a fraction
---     product-within    the rounded product is from x / p - 1 up, and below x / p + 1
+--     product-between   the rounded product is from x / p - 1 up, and below x / p + 1
 use Prim.Native.Nat.{ℕ, zero, suc, _+_, _-_, _*_, _/_, _^_, _≤_, _<_, zero-le}
 use mathlib.Core.Path.{_≡_}
 use mathlib.Core.Bool.{false}
@@ -16,7 +16,7 @@ use lib.Ieee.Scale.{grid, round-val, round-same}
 use Rattle.doubles.specs.Whole.{exactBelow, double, inverse, quotientBelow, largestDivisor}
 use Rattle.doubles.specs.Rounded.{mul-round, div-round}
 use Rattle.doubles.specs.Exactly.{held, held-value}
-use Rattle.doubles.specs.Within.{Within, value-within}
+use Rattle.doubles.specs.Between.{Between, value-between}
 use Rattle.doubles.specs.Error.{Off, unit, rounded-off}
 
 -- ---- numbers only: i / u is 1 / p, and g / u is x * (i / u), each to within one part in b
@@ -67,11 +67,11 @@ module _ (p : ℕ) (P : 0 < p) (most : p ≤ largestDivisor) where
   product-is x s =
       mul-round binary64 (double x) (inverse p) x 1 (grid binary64 1 p) unit (lit< tt) (lit< tt) (held-value (held x (omega arith))) inverse-value
 
-  pub product-within : (x : ℕ) → x < quotientBelow → Within (mul binary64 (double x) (inverse p)) (x / p - 1) (x / p + 1)
-  product-within zero s =
+  pub product-between : (x : ℕ) → x < quotientBelow → Between (mul binary64 (double x) (inverse p)) (x / p - 1) (x / p + 1)
+  product-between zero s =
       rw (product-is 0 s, round-same binary64 false (0 * grid binary64 1 p) unit 0 1 (lit< tt) (lit< tt) (simp zero-mul), zero-div)
-      (value-within (round binary64 false 0 1) 0 1 0 1 (lit< tt) (round-whole binary64 false 0 zero-le) (lit≤ tt) (lit< tt))
-  product-within (suc x) s =
+      (value-between (round binary64 false 0 1) 0 1 0 1 (lit< tt) (round-whole binary64 false 0 zero-le) (lit≤ tt) (lit< tt))
+  product-between (suc x) s =
       let n = suc x in
       let i = grid binary64 1 p in
       let g = grid binary64 (n * i) unit in
@@ -81,5 +81,5 @@ module _ (p : ℕ) (P : 0 < p) (most : p ≤ largestDivisor) where
       let near = near-quotient (n / p) n p unit g P (div-mul-le-self n p) (lt-div-mul-add P) (times .0) (times .1) in
       let finite = lt-of-lt-of-le (near .1) (le-trans (mul-le-mul-right {n = exactBelow} unit (omega (arith, div-le-self n p))) (lit≤ tt)) in
       rw (product-is n s)
-      (value-within (round binary64 false (n * i) unit) g unit (n / p - 1) (n / p + 1) (lit< tt) (round-val binary64 (n * i) unit finite)
+      (value-between (round binary64 false (n * i) unit) g unit (n / p - 1) (n / p + 1) (lit< tt) (round-val binary64 (n * i) unit finite)
       (near .0) (near .1))

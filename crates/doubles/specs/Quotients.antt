@@ -14,15 +14,15 @@ use lib.IntN.{pos}
 use lib.Dec.{T}
 use lib.Ieee.{fin, binary64, mul, div, lt, ofInt, toUnsigned}
 use Rattle.doubles.specs.Whole.{double, inverse, cutProduct, quotientBelow, largestDivisor}
-use Rattle.doubles.specs.Within.{within-cut, within-may-cut}
-use Rattle.doubles.specs.Near.{product-within}
+use Rattle.doubles.specs.Between.{between-cut, between-may-cut}
+use Rattle.doubles.specs.Near.{product-between}
 
 pub off-by-one : (x p : ℕ) → x < quotientBelow → 0 < p → p ≤ largestDivisor → (cutProduct x p ≤ x / p) × (x / p ≤ cutProduct x p + 1)
-off-by-one x p s P m = omega (arith, within-cut (product-within p P m x s) (omega (arith, div-le-self x p)))
+off-by-one x p s P m = omega (arith, between-cut (product-between p P m x s) (omega (arith, div-le-self x p)))
 
 pub may-cut : (x p : ℕ) → x < quotientBelow → 0 < p → p ≤ largestDivisor
     → T (lt (fin true 1 (pos 0)) (mul binary64 (double x) (inverse p))) × T (lt (mul binary64 (double x) (inverse p)) (fin false 1 (pos 64)))
-may-cut x p s P m = within-may-cut (product-within p P m x s) (omega (arith, div-le-self x p))
+may-cut x p s P m = between-may-cut (product-between p P m x s) (omega (arith, div-le-self x p))
 
 pub put-right : (x p g : ℕ) → 0 < p → g ≤ x / p → x / p ≤ g + 1
     → (g * p ≤ x) × (x - g * p < p → g ≡ x / p) × (p ≤ x - g * p → g + 1 ≡ x / p)

@@ -23,10 +23,10 @@ use lib.Ieee.Exact.{HasValue}
 use lib.Ieee.Fits.{ofInt-fits, up-pos, and-l}
 use lib.Ieee.Order.{le-of-values}
 use lib.Ieee.Positive.{num, den, den-pos, value→cross}
-use Rattle.doubles.specs.Whole.{exactBelow, double, number, isWhole, quotientBelow}
+use Rattle.doubles.specs.Whole.{exactBelow, double, wholePart, isWhole, quotientBelow}
 use Rattle.doubles.specs.Rounded.{parts, same-test}
 use Rattle.doubles.specs.Exactly.{held, held-value, held-whole, held-below, whole-held}
-use Rattle.doubles.specs.Within.{Within, within-cut, within-may-cut}
+use Rattle.doubles.specs.Between.{Between, between-cut, between-may-cut}
 use Rattle.doubles.specs.Bits.{double-number, not-itself}
 
 abbrev pub minusZero : ℕ
@@ -47,13 +47,13 @@ minus-not-whole : isWhole (ofBits binary64 minusZero) ≡ false
 unfolding ofBits whole inUnsigned
 minus-not-whole = refl
 
-pub whole-tested : (x : Float) → T (fits binary64 x) → isWhole x ≡ true → number x < quotientBelow → Tested x
+pub whole-tested : (x : Float) → T (fits binary64 x) → isWhole x ≡ true → wholePart x < quotientBelow → Tested x
 whole-tested x f w l =
     let h = whole-held x f w (omega arith) in
-    let from = le-of-values (double 0) x 0 1 (number x) 1 (lit< tt) (lit< tt) (held-value (held 0 (lit< tt))) (held-value h) (omega arith) in
+    let from = le-of-values (double 0) x 0 1 (wholePart x) 1 (lit< tt) (lit< tt) (held-value (held 0 (lit< tt))) (held-value h) (omega arith) in
     record {
       from-zero = is-true (le (double 0) x) from;
-      short = held-below h (held quotientBelow (lit< tt)) ∙ lt-ltb (number x) quotientBelow l;
+      short = held-below h (held quotientBelow (lit< tt)) ∙ lt-ltb (wholePart x) quotientBelow l;
       not-minus = ne-eqb (toBits binary64 x) minusZero (λ e. true≢false (sym w ∙ rw (← ofBits-toBits binary64 x f, e) minus-not-whole));
     }
 
@@ -63,16 +63,16 @@ minus-bits : (e : ℤ) → toBits binary64 (fin true 0 e) ≡ minusZero
 unfolding toBits
 minus-bits e = rw (zero-mul, zero-mul, zero-div)
 
-within : (x : Float) → Tested x → Within x 0 quotientBelow
+between : (x : Float) → Tested x → Between x 0 quotientBelow
 unfolding le lt ofInt
-within nan t = absurd (false≢true (t .from-zero))
-within (inf true) t = absurd (false≢true (t .from-zero))
-within (inf false) t = absurd (false≢true (t .short))
-within (fin true zero e) t = absurd (eqb-false (toBits binary64 (fin true 0 e)) minusZero (t .not-minus) (minus-bits e))
-within (fin true (suc m) e) t =
+between nan t = absurd (false≢true (t .from-zero))
+between (inf true) t = absurd (false≢true (t .from-zero))
+between (inf false) t = absurd (false≢true (t .short))
+between (fin true zero e) t = absurd (eqb-false (toBits binary64 (fin true 0 e)) minusZero (t .not-minus) (minus-bits e))
+between (fin true (suc m) e) t =
     let both = and-l (eqb (0 * 1 * down e) (suc m * up e * 1)) (eqb (0 * 1 * down e) 0) (rw (t .from-zero) tt) in
     absurd (omega (arith, eqb→eq (0 * 1 * down e) (suc m * up e * 1) both, mul-pos (zero-lt-suc m) (up-pos e)))
-within (fin false m e) t =
+between (fin false m e) t =
     let below = ltb-true (m * up e * 1) (1 * quotientBelow * down e) (t .short) in
     record { fraction = (refl, refl); least = omega arith; short = omega arith }
 
@@ -83,10 +83,10 @@ from-zero-number (inf s) e = refl
 from-zero-number (fin s m g) e = refl
 
 pub tested-cut : {x : Float} → Tested x → T (lt (fin true 1 (pos 0)) x) × T (lt x (fin false 1 (pos 64)))
-tested-cut {x} t = within-may-cut (within x t) (lit≤ tt)
+tested-cut {x} t = between-may-cut (between x t) (lit≤ tt)
 
-pub tested-number : {x : Float} → Tested x → number x < quotientBelow
-tested-number {x} t = within-cut (within x t) (lit≤ tt) .1
+pub tested-number : {x : Float} → Tested x → wholePart x < quotientBelow
+tested-number {x} t = between-cut (between x t) (lit≤ tt) .1
 
 -- ---- the last test
 
@@ -99,12 +99,12 @@ eq-value x (fin false m e) n h k t =
     let same = eqb-true (num x * down e) (m * up e * den x) (sym is ∙ t) in
     (refl, eq-of-mul-eq-mul-right (den x) (den-pos x) (m * up e * 1) (n * down e) (omega (arith, ap (λ z. z * down e) (value→cross x n 1 h))))
 
-pub tested-whole : (x : Float) → T (fits binary64 x) → Tested x → eq (double (number x)) x ≡ isWhole x
+pub tested-whole : (x : Float) → T (fits binary64 x) → Tested x → eq (double (wholePart x)) x ≡ isWhole x
 unfolding ne
 tested-whole x f t = same-test (eq (double n) x) (isWhole x) there back
   where
     n : ℕ
-    n = number x
+    n = wholePart x
 
     small : n < exactBelow
     small = omega (arith, tested-number t)
@@ -114,7 +114,7 @@ tested-whole x f t = same-test (eq (double n) x) (isWhole x) there back
 
     there : eq (double n) x ≡ true → isWhole x ≡ true
     there e =
-        let is = whole-unique binary64 x (double n) false n f (ofInt-fits binary64 (pos n)) (eq-value (double n) x n v (within x t .fraction) e) v in
+        let is = whole-unique binary64 x (double n) false n f (ofInt-fits binary64 (pos n)) (eq-value (double n) x n v (between x t .fraction) e) v in
         held-whole {x = x} {n = n} (record { is = is; below = small })
 
     -- then x is the double of n, and what is no NaN equals itself

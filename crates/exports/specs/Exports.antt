@@ -7,7 +7,7 @@
 --     GivesTable s old r after                 build a table
 --     GivesReducedWords s buf ws old r after   reduce by table
 --     GivesProduct s a b old r after           product
---     sumChecks s xs ys len                    the setting's checks; those of feed, of all pairs to a fresh record; then 10: a list of len elements is lent
+--     wholeSumChecks s xs ys len               the setting's checks; those of feed, of all pairs to a fresh record; then 10: a list of len elements is lent
 --     GivesSum s xs ys old r after             the schoolbook sum of all pairs modulo p, and pairs / n, rounded up
 --     InLane s Then r                          in the lane of the setting: what make refuses, and else what Then says of the record made
 --     GivesLaneSum s xs ys r                   lane sum
@@ -19,18 +19,18 @@ use mathlib.Core.Path.{_≡_, sym, _∙_}
 use mathlib.Core.List.{List}
 use lib.ListN.{length}
 use lib.Ieee.{Float}
-use Rattle.polynomials.specs.Blocks.{blocks}
-use Rattle.packed.specs.Answers.{answered, refused, Verdict, refuse, _andThen_, leftBy}
-use Rattle.packed.specs.SharedAnswers.{shortCause}
-use Rattle.packed.specs.Settings.{settingChecks, places}
-use Rattle.packed.specs.Choices.{Chooses, choose-once}
+use Rattle.polynomials.specs.Indices.{roundedUp}
+use Rattle.settings.specs.Answers.{answered, refused, Verdict, refuse, _andThen_, leftBy}
+use Rattle.settings.specs.SharedAnswers.{shortCause}
+use Rattle.settings.specs.Settings.{settingChecks, places}
+use Rattle.settings.specs.Choices.{Chooses, choose-once}
 use Rattle.packed.specs.Places.{Packs, pack-once, Unpacks, unpack-once, Reduces, reduce-once}
-use Rattle.packed.specs.Tables.{Builds, build-once, ReducesByTable, reduce-by-table-once}
+use Rattle.tables.specs.Tables.{Builds, build-once, ReducesByTable, reduce-by-table-once}
 use Rattle.packed.specs.Products.{Multiplies, product-once}
 use Rattle.packed.specs.Running.{fedPairs, feedChecks, freshSum, recordOf}
 use Rattle.packed.specs.Calls.{schoolbook}
 use Rattle.lane.specs.Lanes as inLanes
-use Rattle.packed.specs.declared.setting.Setting.{Setting}
+use Rattle.settings.specs.declared.setting.Setting.{Setting}
 use Rattle.lane.specs.declared.Lane.{Lane}
 use Rattle.lane.specs.declared.Made.{Made}
 use Rattle.lane.specs.declared.Made.the-variants as inMade
@@ -87,16 +87,16 @@ sax-product-once s a b old = tells-written-once (Multiplies s a b old) wroteRepl
 
 -- ---- sum
 
-unfoldable pub sumChecks : Setting → List ℕ → List ℕ → ℕ → Verdict
-sumChecks s xs ys len =
+unfoldable pub wholeSumChecks : Setting → List ℕ → List ℕ → ℕ → Verdict
+wholeSumChecks s xs ys len =
     settingChecks s
     andThen feedChecks (recordOf s freshSum) xs ys
     andThen refuse (shortCause (places s) len) 10 0
 
 abbrev pub GivesSum : Setting → List ℕ → List ℕ → List ℕ → Reply → List ℕ → Type 0
 GivesSum s xs ys old r after =
-    (r ≡ replyOf (sumChecks s xs ys (length old) andThen answered (blocks (s .n) (length (fedPairs s xs ys)))))
-    × (after ≡ leftBy (sumChecks s xs ys (length old)) (schoolbook s (fedPairs s xs ys)) old)
+    (r ≡ replyOf (wholeSumChecks s xs ys (length old) andThen answered (roundedUp (length (fedPairs s xs ys)) (s .n))))
+    × (after ≡ leftBy (wholeSumChecks s xs ys (length old)) (schoolbook s (fedPairs s xs ys)) old)
 
 pub sax-sum-once : (s : Setting) (xs ys old : List ℕ) (r u : Reply) (x y : List ℕ) → GivesSum s xs ys old r x → GivesSum s xs ys old u y → (r ≡ u) × (x ≡ y)
 sax-sum-once s xs ys old r u x y hr hu = (hr .0 ∙ sym (hu .0), hr .1 ∙ sym (hu .1))

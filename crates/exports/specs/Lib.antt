@@ -1,4 +1,4 @@
--- What the exported functions give, by the promises of `packed` and `lane`; then the laws. Each file opens with its notions.
+-- What the exported functions give, by the promises of the library; then the laws. Each file opens with its notions.
 pub mod Replies
 pub mod Exports
 pub mod SumLaws

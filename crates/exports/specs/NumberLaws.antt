@@ -15,23 +15,23 @@ use lib.Dec.{ltb}
 use lib.ListN.{length}
 use lib.Ieee.{Float}
 use Rattle.polynomials.specs.Lists.{productLength}
-use Rattle.packed.specs.Answers.{Answer, answered, refused, Verdict, refuse, refuses, _andThen_}
-use Rattle.packed.specs.AnswerLaws.{never}
-use Rattle.packed.specs.SharedAnswers.{shortCause}
-use Rattle.packed.specs.Settings.{modulusCause, lengthCause, batchCause, widthCause, narrowCause, roomCause, settingChecks, places}
-use Rattle.packed.specs.Choices.{noneCause, smallestWidth, chooseAnswer}
-use Rattle.packed.specs.Coefficients.{firstBad, firstBadOfTwo, coefficientCheck, coefficientsCheck}
-use Rattle.packed.specs.Places.{shapeCause, wordCause, wordChecks, placesChecks, packAnswer, reduceAnswer}
-use Rattle.packed.specs.Tables.{noTableCause, fits, firstBadWord, tableSize, tableChecks, buildChecks, byTableChecks}
+use Rattle.settings.specs.Answers.{Answer, answered, refused, Verdict, refuse, refuses, _andThen_}
+use Rattle.settings.specs.AnswerLaws.{never}
+use Rattle.settings.specs.SharedAnswers.{shortCause}
+use Rattle.settings.specs.Settings.{modulusCause, lengthCause, batchCause, widthCause, narrowCause, roomCause, settingChecks, places}
+use Rattle.settings.specs.Choices.{noneCause, smallestWidth, chooseAnswer}
+use Rattle.settings.specs.Coefficients.{firstBad, firstBadOfTwo, coefficientCheck, coefficientsCheck}
+use Rattle.packed.specs.Places.{shapeCause, wordCause, wordChecks, placesChecks, packAnswer, reduceAnswer, firstBadWord}
+use Rattle.tables.specs.Tables.{noTableCause, fits, tableSize, tableChecks, buildChecks, byTableChecks}
 use Rattle.packed.specs.Overflow.{overflowCause, feedOverflow}
 use Rattle.packed.specs.Products.{factorsCause, factorChecks, productChecks}
-use Rattle.packed.specs.Running.{openPairs, recordCause, pairsCause, fullCause, pairChecks, feedChecks, freshSum, recordOf}
+use Rattle.packed.specs.Running.{openPairs, recordCause, pairsCause, recordFullCause, pairChecks, feedChecks, freshSum, recordOf}
 use Rattle.lane.specs.Lanes as inLanes
-use Rattle.packed.specs.declared.setting.Setting.{Setting}
+use Rattle.settings.specs.declared.setting.Setting.{Setting}
 use Rattle.packed.specs.declared.running.Record.{Record}
 use Rattle.lane.specs.declared.Lane.{Lane}
 use Rattle.exports.specs.Replies.{replyOf, laneReplyOf}
-use Rattle.exports.specs.Exports.{sumChecks}
+use Rattle.exports.specs.Exports.{wholeSumChecks}
 
 abbrev pub Never0 : {A : Type 0} → Answer A → Type 0
 Never0 a = (i : ℕ) → a ≡ refused 0 i → ⊥
@@ -114,7 +114,7 @@ feed r xs ys =
     both
     (both (check (recordCause r) 12 0 (omega arith))
     (both (check (pairsCause (r .setting .k) (length xs) (length ys)) 9 0 (omega arith))
-    (both (check (fullCause (r .sum .total) (length xs / r .setting .k)) 13 0 (omega arith)) (coefficients (r .setting .p) xs ys))))
+    (both (check (recordFullCause (r .sum .total) (length xs / r .setting .k)) 13 0 (omega arith)) (coefficients (r .setting .p) xs ys))))
     (check (feedOverflow (r .setting) (openPairs (r .setting) (r .sum)) (r .sum .word) xs ys) 18 0 (omega arith))
 
 -- ---- what the exported functions tell
@@ -159,20 +159,20 @@ product-never-0 s a b len =
     (both (coefficients (s .p) a b) (short (productLength (length a) (length b)) len))))
     (check (overflowCause s a b) 18 0 (omega arith))
 
-pub sum-never-0 : (s : Setting) (xs ys : List ℕ) (len : ℕ) → Never0 (sumChecks s xs ys len)
-unfolding sumChecks
+pub sum-never-0 : (s : Setting) (xs ys : List ℕ) (len : ℕ) → Never0 (wholeSumChecks s xs ys len)
+unfolding wholeSumChecks
 sum-never-0 s xs ys len = both (setting s) (both (feed (recordOf s freshSum) xs ys) (short (places s) len))
 
 pub make-never-0 : (s : Setting) → Never0 (inLanes.makeChecks s)
 unfolding inLanes.makeChecks
 make-never-0 s = both (setting s) (check (inLanes.laneCause s) 16 0 (omega arith))
 
-pub lane-sum-never-0 : (l : Lane) (xs ys : List ℕ) → Never0 (inLanes.sumChecks l xs ys)
-unfolding inLanes.sumChecks
+pub lane-sum-never-0 : (l : Lane) (xs ys : List ℕ) → Never0 (inLanes.laneSumChecks l xs ys)
+unfolding inLanes.laneSumChecks
 lane-sum-never-0 l xs ys =
     both (check (inLanes.heldCause l) 12 0 (omega arith))
     (both (check (pairsCause (l .setting .k) (length xs) (length ys)) 9 0 (omega arith))
-    (both (check (inLanes.fullCause (l .setting .n) (length xs / l .setting .k)) 13 0 (omega arith)) (coefficients (l .setting .p) xs ys)))
+    (both (check (inLanes.laneFullCause (l .setting .n) (length xs / l .setting .k)) 13 0 (omega arith)) (coefficients (l .setting .p) xs ys)))
 
 pub lane-reduce-never-0 : (l : Lane) (x : Float) → Never0 (inLanes.reduceChecks l x)
 unfolding inLanes.reduceChecks

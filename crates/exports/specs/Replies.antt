@@ -11,14 +11,14 @@ use mathlib.Core.Path.{_≡_, sym, ap, _∙_}
 use mathlib.Core.List.{List}
 use lib.Ieee.{Float}
 use Rattle.doubles.specs.Whole.{double}
-use Rattle.packed.specs.Answers.{Answer, answered, refused}
-use Rattle.packed.specs.SharedAnswers.{packedSays, wroteSays}
-use Rattle.packed.specs.Choices.{chosenSays}
+use Rattle.settings.specs.Answers.{Answer, answered, refused}
+use Rattle.settings.specs.SharedAnswers.{packedSays, wroteSays}
+use Rattle.settings.specs.Choices.{chosenSays}
 use Rattle.packed.specs.Running.{closedSays}
 use Rattle.lane.specs.Lanes.{laneSays}
-use Rattle.packed.specs.declared.setting.Chosen.{Chosen}
-use Rattle.packed.specs.declared.answers.Packed.{Packed}
-use Rattle.packed.specs.declared.answers.Wrote.{Wrote}
+use Rattle.settings.specs.declared.setting.Chosen.{Chosen}
+use Rattle.settings.specs.declared.answers.Packed.{Packed}
+use Rattle.settings.specs.declared.answers.Wrote.{Wrote}
 use Rattle.packed.specs.declared.running.Closed.{Closed}
 use Rattle.lane.specs.declared.LaneAnswer.{LaneAnswer}
 use Rattle.exports.specs.declared.replies.Reply.{Reply}

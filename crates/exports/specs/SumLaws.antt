@@ -15,32 +15,33 @@ use native.Mathlib.Omega.{arith}
 use lib.ListN.{length, take, drop}
 use lib.Seq.{take-add}
 use Rattle.polynomials.specs.Lists.{Pair}
-use Rattle.packed.specs.Answers.{Answer, answered, refused, Verdict, fine, _andThen_}
-use Rattle.packed.specs.AnswerLaws.{never, passed-first}
-use Rattle.packed.specs.Bounds.{bounds}
-use Rattle.packed.specs.Settings.{settingChecks}
-use Rattle.packed.specs.Running.{Coherent, afterPairs, fedPairs, feedChecks, takenSays, takenOf, keptBy, freshSum, recordOf, Feeds, Closes}
+use Rattle.settings.specs.Answers.{Answer, answered, refused, Verdict, fine, _andThen_}
+use Rattle.settings.specs.AnswerLaws.{never, passed-first}
+use Rattle.settings.specs.Bounds.{bounds}
+use Rattle.settings.specs.Settings.{settingChecks}
+use Rattle.packed.specs.Running.{Coherent, afterPairs, fedPairs, feedChecks, countedSays, countedOf, keptBy, freshSum, recordOf, Feeds, Closes}
 use Rattle.packed.specs.Calls.{Call, ClosesTo}
-use Rattle.packed.specs.Feeding.{fedSum, Feeding}
-use Rattle.packed.specs.FeedLaws as inFeeds
+use Rattle.packed.specs.FedPairs.{fedSum, PairsToFeed}
+use Rattle.packed.specs.FedPairs as inFeeds
 use Rattle.packed.specs.RunningChecks.{pairs-pass, feed-taken, Told, feed-told}
-use Rattle.packed.specs.DemandThree.{feed-joined, demand-3}
-use Rattle.packed.specs.declared.setting.Setting.{Setting}
-use Rattle.packed.specs.declared.setting.Checked.the-variants as inChecked
+use Rattle.packed.specs.DemandThree.{demand-3}
+use Rattle.packed.specs.Joining.{feed-joined}
+use Rattle.settings.specs.declared.setting.Setting.{Setting}
+use Rattle.settings.specs.declared.setting.Checked.the-variants as inChecked
 use Rattle.packed.specs.declared.running.Sum.{Sum}
 use Rattle.packed.specs.declared.running.Record.{Record}
 use Rattle.packed.specs.declared.running.Begun.{Begun}
 use Rattle.packed.specs.declared.running.Fed.{Fed}
-use Rattle.packed.specs.declared.running.Taken.the-variants as inTaken
+use Rattle.packed.specs.declared.running.Counted.the-variants as inCounted
 use Rattle.packed.specs.declared.running.Closed.{Closed}
 use Rattle.exports.specs.Replies.{replyOf, closedReply}
-use Rattle.exports.specs.Exports.{sumChecks, GivesSum}
+use Rattle.exports.specs.Exports.{wholeSumChecks, GivesSum}
 
 abbrev pub FedTo : Record → List ℕ → List ℕ → Record → ℕ → Type 0
-FedTo r xs ys z m = Feeds r xs ys (record { running = z; answer = inTaken.Pairs m })
+FedTo r xs ys z m = Feeds r xs ys (record { running = z; answer = inCounted.Pairs m })
 
-pub fed-to : (r : Record) (xs ys : List ℕ) (f : Fed) (m : ℕ) → Feeds r xs ys f → f .answer ≡ inTaken.Pairs m → FedTo r xs ys (f .running) m
-fed-to r xs ys f m h e = (sym (ap takenSays e) ∙ h .0, h .1)
+pub fed-to : (r : Record) (xs ys : List ℕ) (f : Fed) (m : ℕ) → Feeds r xs ys f → f .answer ≡ inCounted.Pairs m → FedTo r xs ys (f .running) m
+fed-to r xs ys f m h e = (sym (ap countedSays e) ∙ h .0, h .1)
 
 after-none : (s : Setting) (u : Sum) (cs : List Pair) → length cs ≡ 0 → afterPairs s u cs ≡ u
 unfolding afterPairs
@@ -52,7 +53,7 @@ fed-none r h =
     let s = r .setting in
     let none : 0 / s .k ≡ 0 = zero-div (s .k) in
     let below : (j : ℕ) → 0 < s .p = λ j. omega (arith, bounds s (h .accepted) .range .choice .p-low) in
-    let can : Feeding s (r .sum) [] [] = record {
+    let can : PairsToFeed s (r .sum) [] [] = record {
       coherent = h;
       same-size = refl;
       whole = zero-mod (s .k);
@@ -67,19 +68,19 @@ fed-none r h =
 abbrev fedBy : Record → List ℕ → List ℕ → Fed
 fedBy r xs ys = record {
   running = keptBy (feedChecks r xs ys) (recordOf (r .setting) (afterPairs (r .setting) (r .sum) (fedPairs (r .setting) xs ys))) r;
-  answer = takenOf (feedChecks r xs ys andThen answered (length xs / r .setting .k));
+  answer = countedOf (feedChecks r xs ys andThen answered (length xs / r .setting .k));
 }
 
 fed-by : (r : Record) (xs ys : List ℕ) → Feeds r xs ys (fedBy r xs ys)
 fed-by r xs ys = (says-of (feedChecks r xs ys andThen answered (length xs / r .setting .k)), refl)
   where
-    says-of : (a : Answer ℕ) → takenSays (takenOf a) ≡ a
+    says-of : (a : Answer ℕ) → countedSays (countedOf a) ≡ a
     says-of (answered m) = refl
     says-of (refused number place) = refl
 
 module _ (r : Record) (xs ys : List ℕ) (z : Record) (m : ℕ) (fed : FedTo r xs ys z m) where
-  told : Told r xs ys (record { running = z; answer = inTaken.Pairs m })
-  told = feed-told r xs ys (record { running = z; answer = inTaken.Pairs m }) fed refl
+  told : Told r xs ys (record { running = z; answer = inCounted.Pairs m })
+  told = feed-told r xs ys (record { running = z; answer = inCounted.Pairs m }) fed refl
 
   count : m ≡ length xs / r .setting .k
   count = let took = told .took in cc
@@ -92,8 +93,8 @@ module _ (r : Record) (xs ys : List ℕ) (z : Record) (m : ℕ) (fed : FedTo r x
 
 pub fed-more : (r : Record) (xs ys us vs : List ℕ) (z w : Record) (m l : ℕ) → FedTo r xs ys z m → FedTo z us vs w l → FedTo r (xs ++ us) (ys ++ vs) w (m + l)
 fed-more r xs ys us vs z w m l first second =
-    let f : Fed = record { running = z; answer = inTaken.Pairs m } in
-    let g : Fed = record { running = w; answer = inTaken.Pairs l } in
+    let f : Fed = record { running = z; answer = inCounted.Pairs m } in
+    let g : Fed = record { running = w; answer = inCounted.Pairs l } in
     let all = feed-joined r xs ys us vs f g (fedBy r (xs ++ us) (ys ++ vs)) first refl second refl (fed-by r (xs ++ us) (ys ++ vs)) in
     let pairs : length xs / r .setting .k + length us / r .setting .k ≡ m + l = rw (count r xs ys z m first, count z us vs w l second, setting-kept r xs ys z m first) in
     subst (λ (n : ℕ). FedTo r (xs ++ us) (ys ++ vs) w n) pairs (subst (Feeds r (xs ++ us) (ys ++ vs)) all (fed-by r (xs ++ us) (ys ++ vs)))
@@ -116,18 +117,18 @@ module _ (s : Setting) (xs ys old : List ℕ) where
   start = recordOf s freshSum
 
   pub sum-unset : (number place : ℕ) → settingChecks s ≡ refused number place → GivesSum s xs ys old (replyOf (refused number place)) old
-  unfolding sumChecks
+  unfolding wholeSumChecks
   sum-unset number place e = (rw e, rw e)
 
   module _ (ok : settingChecks s ≡ fine) (f : Fed) (fed : Feeds start xs ys f) where
-    pub sum-unfed : (number place : ℕ) → takenSays (f .answer) ≡ refused number place → GivesSum s xs ys old (replyOf (refused number place)) old
-    unfolding sumChecks
+    pub sum-unfed : (number place : ℕ) → countedSays (f .answer) ≡ refused number place → GivesSum s xs ys old (replyOf (refused number place)) old
+    unfolding wholeSumChecks
     sum-unfed number place e =
         let why : feedChecks start xs ys ≡ refused number place = refused-first (feedChecks start xs ys) (length xs / s .k) number place (sym (fed .0) ∙ e) in
         (rw (ok, why), rw (ok, why))
 
-    pub sum-closed : (m : ℕ) (a : Closed) (after : List ℕ) → takenSays (f .answer) ≡ answered m → Closes (f .running) old a after → GivesSum s xs ys old (closedReply a) after
-    unfolding sumChecks
+    pub sum-closed : (m : ℕ) (a : Closed) (after : List ℕ) → countedSays (f .answer) ≡ answered m → Closes (f .running) old a after → GivesSum s xs ys old (closedReply a) after
+    unfolding wholeSumChecks
     sum-closed m a after took closes =
         let taken : feedChecks start xs ys ≡ fine = passed-first (feedChecks start xs ys) (answered (length xs / s .k)) m (sym (fed .0) ∙ took) .0 in
         let begun : Begun = record { running = start; answer = inChecked.Accepted } in

@@ -3,9 +3,9 @@ ghost use mathlib.Core.Path.{_≡_};
 ghost use Prim.Native.Nat.{_<_, min};
 ghost use lib.ListN.{length};
 ghost use Rattle.packed.specs.Running.{Coherent, Feeds};
+use packed::running::Counted;
 use packed::running::Fed;
 use packed::running::Record;
-use packed::running::Taken;
 use packed::running::feed;
 
 // What one call with all pairs gives, size pairs at a time. Lists of two lengths have no pairs, and a size of 0 cuts nothing: they go to feed as they are.
@@ -39,7 +39,7 @@ fn feed_steps(running: Record, xs: &[u16], ys: &[u16], step: usize) -> Fed
         let end = at + least(step, xs.len() - at);
         let fed = feed(so_far, &xs[at..end], &ys[at..end]);
         let taken = fed.answer;
-        let Taken::Pairs(more) = taken else {
+        let Counted::Pairs(more) = taken else {
             return feed(running, xs, ys);
         };
         pairs += more;
@@ -49,7 +49,7 @@ fn feed_steps(running: Record, xs: &[u16], ys: &[u16], step: usize) -> Fed
     }
     Fed {
         running: so_far,
-        answer: Taken::Pairs(pairs),
+        answer: Counted::Pairs(pairs),
     }
 }
 

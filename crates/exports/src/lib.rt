@@ -1,6 +1,6 @@
-// The library for programs in C and Rust: numbers and slices only. A setting is the four numbers p, k, t, n. Each function makes the calls of `packed` or
-// `lane` that its name says, and gives what they answer in numbers; it works nothing out itself.
-ghost use Rattle.packed.specs.Choices.{settingOf};
+// The library for programs in C and Rust: numbers and slices only. A setting is the four numbers p, k, t, n. Each function makes the calls of the
+// library that its name says, and gives what they answer in numbers; it works nothing out itself.
+ghost use Rattle.settings.specs.Settings.{settingOf};
 ghost use Rattle.exports.specs.Exports.{GivesWidth, GivesWord, GivesFields, GivesReduced, GivesTable, GivesReducedWords, GivesProduct, GivesSum, GivesLaneSum, GivesLaneReduced};
 
 mod calls;
@@ -22,14 +22,14 @@ use packed::places::pack;
 use packed::places::reduce;
 use packed::places::unpack;
 use packed::products::product;
-use packed::running::Taken;
+use packed::running::Counted;
 use packed::running::close;
 use packed::running::fresh;
-use packed::setting::Checked;
-use packed::setting::Setting;
-use packed::setting::choose;
-use packed::tables::build;
-use packed::tables::reduce_by_table;
+use settings::setting::Checked;
+use settings::setting::Setting;
+use settings::setting::choose;
+use tables::build;
+use tables::reduce_by_table;
 
 // Choose: the value is the width.
 #[no_mangle]
@@ -125,7 +125,7 @@ pub extern "C" fn sax_sum(
     }
     let fed = feed_in_calls(begun.running, xs, ys, size);
     let taken = fed.answer;
-    if let Taken::Refused(r) = taken {
+    if let Counted::Refused(r) = taken {
         return of_refusal(r);
     }
     of_closed(close(fed.running, out))

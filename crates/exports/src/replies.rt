@@ -1,13 +1,13 @@
 // What the exported functions give: the number of a refusal, or 0 where nothing was refused; its place; and the value, which is 0 beside a refusal.
 ghost use mathlib.Core.Path.{_≡_};
-ghost use Rattle.packed.specs.Answers.{answered, refused};
+ghost use Rattle.settings.specs.Answers.{answered, refused};
 ghost use Rattle.exports.specs.Replies.{replyOf, laneReplyOf, chosenReply, packedReply, wroteReply, closedReply, laneReply};
 use lane::LaneAnswer;
-use packed::answers::Packed;
-use packed::answers::Wrote;
-use packed::refusals::Refusal;
 use packed::running::Closed;
-use packed::setting::Chosen;
+use settings::answers::Packed;
+use settings::answers::Wrote;
+use settings::refusals::Refusal;
+use settings::setting::Chosen;
 
 #[repr(C)]
 pub struct Reply {

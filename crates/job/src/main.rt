@@ -12,7 +12,7 @@ use jobs::state::start;
 use jobs::state::take;
 use libc::STDIN_FILENO;
 use libc::STDOUT_FILENO;
-use packed::answers::Wrote;
+use settings::answers::Wrote;
 
 // A state, and whether there is more to read.
 struct Step {

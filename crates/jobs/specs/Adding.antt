@@ -7,9 +7,9 @@ use mathlib.Core.Path.{_≡_}
 use mathlib.Core.List.{List}
 use lib.ListN.{length}
 use Rattle.polynomials.specs.Lists.{Below}
-use Rattle.packed.specs.Limits.{mostPairs}
+use Rattle.settings.specs.Limits.{mostPairs}
 use Rattle.packed.specs.Running.{Coherent}
-use Rattle.packed.specs.declared.setting.Setting.{Setting}
+use Rattle.settings.specs.declared.setting.Setting.{Setting}
 use Rattle.packed.specs.declared.running.Sum.{Sum}
 use Rattle.jobs.specs.Jobs.{pairBytes, coefficientsIn}
 use Rattle.jobs.specs.Apart.{blockSize}

@@ -4,7 +4,7 @@
 --     share                                 how often b goes into m b and more
 --     coefficients-join, pairs-in-join      the coefficients of joined bytes, and the pairs of joined coefficients, where the first are whole
 --     k-some, k-few                         of a coherent record k is from 1 to 8
---     sum-join, sum-none                    bytes one after the other are added up as joined bytes are; less than a pair adds nothing
+--     sum-after-join, sum-after-none                    bytes one after the other are added up as joined bytes are; less than a pair adds nothing
 --     sum-total, sum-coherent               how many pairs were added; a coherent record stays so
 --     pairs-below                           pairs of coefficients below p are operands
 use Prim.Native.Nat.{ℕ, _+_, _-_, _*_, _/_, _≤_, _<_}
@@ -21,12 +21,12 @@ use Rattle.polynomials.specs.Blocks.{block, pairsUpto}
 use Rattle.polynomials.specs.BlockLaws.{block-operand, length-pairs, pairs-operands}
 use Rattle.polynomials.specs.PairLaws.{pairs-same, pairs-more, inside-first, inside-second}
 use Rattle.layout.specs.Numbers.{numberAt, numberAt-same}
-use Rattle.packed.specs.Limits.{mostCoefficients, mostPairs}
-use Rattle.packed.specs.Coefficients.{taken, taken-length, taken-join, taken-low}
-use Rattle.packed.specs.Bounds.{bounds}
+use Rattle.settings.specs.Limits.{mostCoefficients, mostPairs}
+use Rattle.packed.specs.Taken.{taken, taken-length, taken-join, taken-low}
+use Rattle.settings.specs.Bounds.{bounds}
 use Rattle.packed.specs.Running.{Coherent, afterPairs}
 use Rattle.packed.specs.RunningLaws.{after-join, after-total, coherent-after}
-use Rattle.packed.specs.declared.setting.Setting.{Setting}
+use Rattle.settings.specs.declared.setting.Setting.{Setting}
 use Rattle.packed.specs.declared.running.Sum.{Sum}
 use Rattle.jobs.specs.Jobs.{pairBytes, coefficientsIn, pairsIn}
 use Rattle.jobs.specs.States.{sumAfter}
@@ -103,9 +103,9 @@ pub pairs-even : (m k size : ℕ) → size ≡ m * pairBytes k → size ≡ m * 
 pairs-even m k size h = h ∙ (let e : 4 * k ≡ 2 * k * 2 = omega arith in rw e (sym (mul-assoc m (2 * k) 2)))
 
 module _ (s : Setting) (u : Sum) (hk : 1 ≤ s .k) where
-  pub sum-join : (m : ℕ) (xs ys : List ℕ) → length xs ≡ m * pairBytes (s .k) → sumAfter s u (xs ++ ys) ≡ sumAfter s (sumAfter s u xs) ys
+  pub sum-after-join : (m : ℕ) (xs ys : List ℕ) → length xs ≡ m * pairBytes (s .k) → sumAfter s u (xs ++ ys) ≡ sumAfter s (sumAfter s u xs) ys
   unfolding sumAfter
-  sum-join m xs ys h =
+  sum-after-join m xs ys h =
       let cs : List ℕ = coefficientsIn xs in
       let ds : List ℕ = coefficientsIn ys in
       let even : length xs ≡ m * (2 * s .k) * 2 = pairs-even m (s .k) (length xs) h in
@@ -134,8 +134,8 @@ module _ (s : Setting) (u : Sum) (hk : 1 ≤ s .k) where
     unfolding sumAfter
     sum-coherent c h few = coherent-after s u (pairsIn (s .k) (taken (s .p) (coefficientsIn bs))) c (pairs-below h) (rw count few)
 
-    pub sum-none : length bs < pairBytes (s .k) → sumAfter s u bs ≡ u
+    pub sum-after-none : length bs < pairBytes (s .k) → sumAfter s u bs ≡ u
     unfolding sumAfter afterPairs
-    sum-none h =
+    sum-after-none h =
         let none : length (taken (s .p) (coefficientsIn bs)) / (2 * s .k) ≡ 0 = rw (taken-length (s .p) (coefficientsIn bs), length-coefficientsIn bs, div-div-eq-div-mul (length bs) 2 (2 * s .k)) (div-eq-of-lt (omega arith)) in
         rw none

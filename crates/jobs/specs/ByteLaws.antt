@@ -20,7 +20,7 @@ use Rattle.polynomials.specs.IndexLaws.{length-upto, upto-at}
 use Rattle.polynomials.specs.Lists.{coefficient}
 use Rattle.polynomials.specs.ListLaws.{lists-agree, coefficient-past, coefficient-zeros, filled-at, filled-after, length-filled}
 use Rattle.layout.specs.Numbers.{numberAt}
-use Rattle.packed.specs.Coefficients.{NoneAbove}
+use Rattle.settings.specs.Coefficients.{NoneAbove}
 use Rattle.jobs.specs.Jobs.{coefficientsIn}
 use Rattle.jobs.specs.Apart.{Raised, blockSize, Copying, Copied, Parting, TakenApart}
 

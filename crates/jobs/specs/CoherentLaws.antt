@@ -10,7 +10,6 @@
 use Prim.Native.Nat.{ℕ, _≤_, _<_}
 use mathlib.Core.Path.{_≡_, refl}
 use mathlib.Core.Bool.{Bool, true, false}
-use mathlib.Mathlib.Data.Bool.Basic.{or-eq-false-eq-eq-false-and-eq-false}
 use mathlib.Core.List.{List, []}
 use native.Mathlib.Decide.{decLt}
 use native.Mathlib.Omega.{arith}
@@ -18,20 +17,21 @@ use lib.Dec.{ltb, leb}
 use lib.ListN.{length, take}
 use lib.Seq.{length-take-le, getD-take}
 use borrow.Author.Tests.{lt-ltb, le-ltb, ltb-false, lt-leb, leb-false}
+use Rattle.polynomials.specs.Tests.{neither}
 use Rattle.polynomials.specs.Indices.{first, upto}
 use Rattle.polynomials.specs.IndexLaws.{length-upto, upto-at, exceeds-none}
 use Rattle.polynomials.specs.Lists.{coefficient, Below}
 use Rattle.polynomials.specs.ListLaws.{lists-agree, coefficient-past}
-use Rattle.packed.specs.Limits.{mostPairs}
-use Rattle.packed.specs.Answers.{answered, refused, Verdict, fine, refuse, _andThen_}
-use Rattle.packed.specs.Settings.{modulusCause, lengthCause, batchCause, widthCause, narrowCause, roomCause, settingChecks}
-use Rattle.packed.specs.AnswerLaws.{passed-last}
-use Rattle.packed.specs.Coefficients.{firstBad, coefficientCheck, coefficient-check}
-use Rattle.packed.specs.Bounds.{bounds}
-use Rattle.packed.specs.Running.{recordCause, fullCause, recordOf}
+use Rattle.settings.specs.Limits.{mostPairs}
+use Rattle.settings.specs.Answers.{answered, refused, Verdict, fine, refuse, _andThen_}
+use Rattle.settings.specs.Settings.{modulusCause, lengthCause, batchCause, widthCause, narrowCause, roomCause, settingChecks}
+use Rattle.settings.specs.AnswerLaws.{passed-last}
+use Rattle.settings.specs.Coefficients.{firstBad, coefficientCheck, coefficient-check}
+use Rattle.settings.specs.Bounds.{bounds}
+use Rattle.packed.specs.Running.{recordCause, recordFullCause, recordOf}
 use Rattle.packed.specs.RunningLaws.{coherent-is}
-use Rattle.packed.specs.declared.refusals.Refusal.{Refusal}
-use Rattle.packed.specs.declared.setting.Setting.{Setting}
+use Rattle.settings.specs.declared.refusals.Refusal.{Refusal}
+use Rattle.settings.specs.declared.setting.Setting.{Setting}
 use Rattle.packed.specs.declared.running.Sum.{Sum}
 use Rattle.packed.specs.declared.running.Record.{Record}
 use Rattle.jobs.specs.Jobs.{headerBytes, settingIn, pairBytes, declaredPairs, headerCause, raggedCause, coefficientsIn, headerChecks}
@@ -123,7 +123,7 @@ header-given bs =
     then-given (refuse (headerCause bs) 17 0) _ (refuse-given (headerCause bs) 17 0 refl)
     (then-given (settingChecks (settingIn bs)) _ (setting-given (settingIn bs))
     (then-given (refuse (raggedCause bs) 17 0) _ (refuse-given (raggedCause bs) 17 0 refl)
-    (refuse-given (fullCause 0 (declaredPairs bs)) 13 0 refl)))
+    (refuse-given (recordFullCause 0 (declaredPairs bs)) 13 0 refl)))
 
 pub header-refusal : (bs : List ℕ) (number place : ℕ) → headerChecks bs ≡ refused number place → refusalCause (record { number = number; place = place }) ≡ false
 header-refusal bs number place e = rw e at (header-given bs)
@@ -136,10 +136,10 @@ pub record Waiting (st : State) : Type 0 where
 
 pub adding-waits : (st : State) → addingCause st ≡ false → Waiting st
 adding-waits st cause =
-    let first = or-eq-false-eq-eq-false-and-eq-false (recordCause (st .running)) _ .0 cause in
-    let second = or-eq-false-eq-eq-false-and-eq-false (ltb mostPairs (st .pairs)) _ .0 (first .1) in
-    let third = or-eq-false-eq-eq-false-and-eq-false (ltb (st .pairs) (st .running .sum .total)) _ .0 (second .1) in
-    let fourth = or-eq-false-eq-eq-false-and-eq-false (leb (pairBytes (st .running .setting .k)) (st .size)) _ .0 (third .1) in
+    let first = neither (recordCause (st .running)) _ cause in
+    let second = neither (ltb mostPairs (st .pairs)) _ (first .1) in
+    let third = neither (ltb (st .pairs) (st .running .sum .total)) _ (second .1) in
+    let fourth = neither (leb (pairBytes (st .running .setting .k)) (st .size)) _ (third .1) in
     record {
       adding = record {
         coherent = coherent-is (st .running) .0 (first .0);

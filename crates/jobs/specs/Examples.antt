@@ -8,8 +8,8 @@ use Prim.Native.Nat.{ℕ}
 use lib.ListN.{take}
 use Rattle.polynomials.specs.Indices.{first}
 use Rattle.layout.specs.Decimals.{digits, decimal}
-use Rattle.packed.specs.Settings.{settingChecks}
-use Rattle.packed.specs.Coefficients.{taken}
+use Rattle.settings.specs.Settings.{settingChecks}
+use Rattle.packed.specs.Taken.{taken}
 use Rattle.jobs.specs.Lines.{sumsLine, refusedLine}
 use Rattle.jobs.specs.Jobs.{headerChecks, jobChecks, jobLine}
 

@@ -2,8 +2,8 @@
 --     parting                 a block's pairs are there, and there is room for them
 --     feeding, fed-pairs      taken apart they are lists that feed takes, and the pairs that they hold are those in the bytes
 --     fed-block               so feed refuses nothing, and adds up what is in the bytes
---     FedSoFar                the bytes before place i are fed, whole pairs
---     fed-none, fed-block-fits, fed-more, some-more, fed-all
+--     BytesFed                the bytes before place i are fed, whole pairs
+--     bytes-fed-none, fed-block-fits, bytes-fed-more, some-more, bytes-fed-all
 --                             a loop that feeds them: at its start; what is next is a block; after it; there is more of it; at its end
 --     blockBytes, block-bytes-most
 --                             the most bytes of a block
@@ -20,12 +20,12 @@ use Rattle.polynomials.specs.Lists.{coefficient, Below}
 use Rattle.polynomials.specs.ListLaws.{coefficient-past}
 use Rattle.polynomials.specs.Blocks.{block}
 use Rattle.polynomials.specs.PairLaws.{pairs-same}
-use Rattle.packed.specs.Coefficients.{taken, taken-at, taken-length}
-use Rattle.packed.specs.Bounds.{bounds}
+use Rattle.packed.specs.Taken.{taken, taken-at, taken-length}
+use Rattle.settings.specs.Bounds.{bounds}
 use Rattle.packed.specs.Running.{recordOf, fedPairs, Feeds}
-use Rattle.packed.specs.Feeding.{Feeding}
+use Rattle.packed.specs.FedPairs.{PairsToFeed}
 use Rattle.packed.specs.RunningChecks.{pairs-pass, feed-fine}
-use Rattle.packed.specs.declared.setting.Setting.{Setting}
+use Rattle.settings.specs.declared.setting.Setting.{Setting}
 use Rattle.packed.specs.declared.running.Sum.{Sum}
 use Rattle.packed.specs.declared.running.Record.{Record}
 use Rattle.packed.specs.declared.running.Fed.{Fed}
@@ -34,7 +34,7 @@ use Rattle.jobs.specs.States.{sumAfter}
 use Rattle.jobs.specs.Apart.{blockSize, Parting, TakenApart}
 use Rattle.jobs.specs.Adding.{Feedable, Block}
 use Rattle.jobs.specs.ByteLaws.{length-coefficientsIn}
-use Rattle.jobs.specs.AddingLaws.{k-some, k-few, below-parts, pairs-even, coefficients-join, sum-join, sum-none, sum-total, sum-coherent}
+use Rattle.jobs.specs.AddingLaws.{k-some, k-few, below-parts, pairs-even, coefficients-join, sum-after-join, sum-after-none, sum-total, sum-coherent}
 
 -- a place inside a block inside all of them
 inside : (k m r j : ℕ) → r < m → j < k → r * k + j < m * k
@@ -94,7 +94,7 @@ module _ (s : Setting) (u : Sum) (bs : List ℕ) (b : Block s u bs) where
     many : (zs : List ℕ) → length zs ≡ blockSize → length (take (pairs * s .k) zs) / s .k ≡ pairs
     many zs h = rw (cut zs h) (mul-div-cancel pairs (k-some s u (b .feedable .coherent)))
 
-    pub feeding : Feeding s u left right
+    pub feeding : PairsToFeed s u left right
     feeding = record {
       coherent = b .feedable .coherent;
       same-size = cut xs hx ∙ sym (cut ys hy);
@@ -119,7 +119,7 @@ module _ (s : Setting) (u : Sum) (bs : List ℕ) (b : Block s u bs) where
 
 -- ---- one block after the other
 
-pub record FedSoFar (s : Setting) (u : Sum) (bs : List ℕ) (fed : Record) (i : ℕ) : Type 0 where
+pub record BytesFed (s : Setting) (u : Sum) (bs : List ℕ) (fed : Record) (i : ℕ) : Type 0 where
   pub most : i ≤ length bs
   pub whole : i % pairBytes (s .k) ≡ 0
   pub here : fed ≡ recordOf s (sumAfter s u (take i bs))
@@ -171,13 +171,13 @@ module _ (s : Setting) (u : Sum) (bs : List ℕ) (f : Feedable s u bs) where
       go (yes l) = let few : blockSize < 1 * s .k = div-lt-iff-lt-mul (k-some s u (f .coherent)) .0 l in absurd (omega (arith, (k-few s u (f .coherent))))
       go (no l) = omega arith
 
-  pub fed-none : FedSoFar s u bs (recordOf s u) 0
-  fed-none = record { most = omega arith; whole = zero-mod b; here = ap (recordOf s) (sym (sum-none s u (k-some s u (f .coherent)) [] (omega (arith, (k-some s u (f .coherent)))))) }
+  pub bytes-fed-none : BytesFed s u bs (recordOf s u) 0
+  bytes-fed-none = record { most = omega arith; whole = zero-mod b; here = ap (recordOf s) (sym (sum-after-none s u (k-some s u (f .coherent)) [] (omega (arith, (k-some s u (f .coherent)))))) }
 
-  pub fed-all : (fed : Record) (i : ℕ) → FedSoFar s u bs fed i → length bs ≤ i → fed ≡ recordOf s (sumAfter s u bs)
-  fed-all fed i h l = h .here ∙ ap (λ (l : List ℕ). recordOf s (sumAfter s u l)) (take-all i bs l)
+  pub bytes-fed-all : (fed : Record) (i : ℕ) → BytesFed s u bs fed i → length bs ≤ i → fed ≡ recordOf s (sumAfter s u bs)
+  bytes-fed-all fed i h l = h .here ∙ ap (λ (l : List ℕ). recordOf s (sumAfter s u l)) (take-all i bs l)
 
-  module _ (fed : Record) (i d : ℕ) (h : FedSoFar s u bs fed i) (size : d ≡ min (blockBytes (s .k)) (length bs - i)) where
+  module _ (fed : Record) (i d : ℕ) (h : BytesFed s u bs fed i) (size : d ≡ min (blockBytes (s .k)) (length bs - i)) where
     abbrev chunk : List ℕ
     chunk = take (i + d - i) (drop i bs)
 
@@ -232,11 +232,11 @@ module _ (s : Setting) (u : Sum) (bs : List ℕ) (f : Feedable s u bs) where
       small = rw chunk-count (le-trans (mul-le-mul-right {m = now .count} {n = blockSize / s .k} (s .k) (now .few)) (div-mul-le-self blockSize (s .k)));
     })
 
-    pub fed-more : (r : Record) → r ≡ recordOf (fed .setting) (sumAfter (fed .setting) (fed .sum) chunk) → FedSoFar s u bs r (i + d)
-    fed-more r e = record {
+    pub bytes-fed-more : (r : Record) → r ≡ recordOf (fed .setting) (sumAfter (fed .setting) (fed .sum) chunk) → BytesFed s u bs r (i + d)
+    bytes-fed-more r e = record {
       most = inside-all;
       whole = rw past (mul-mod-left (i / b + now .count) b);
-      here = e ∙ rw (h .here, next) (ap (recordOf s) (sym (sum-join s u (k-some s u (f .coherent)) (i / b) (take i bs) chunk begun)));
+      here = e ∙ rw (h .here, next) (ap (recordOf s) (sym (sum-after-join s u (k-some s u (f .coherent)) (i / b) (take i bs) chunk begun)));
     }
 
     pub some-more : i < length bs → 0 < d

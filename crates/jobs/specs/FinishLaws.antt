@@ -11,7 +11,6 @@
 use Prim.Native.Nat.{ℕ, _≤_, _<_}
 use mathlib.Core.Path.{_≡_, refl, sym, _∙_}
 use mathlib.Core.Bool.{Bool, true, false, not, true≢false, or-true}
-use mathlib.Mathlib.Data.Bool.Basic.{or-eq-false-eq-eq-false-and-eq-false}
 use mathlib.Core.List.{List, _++_}
 use native.Mathlib.Nat.{le-trans, lt-of-le-of-lt, lt-of-lt-of-le, mod-lt}
 use native.Mathlib.Decide.{decLt}
@@ -20,19 +19,19 @@ use lib.Dec.{ltb, eqb, lit<, lit≤}
 use lib.ListN.{length, take, drop}
 use lib.Seq.{take-at}
 use borrow.Author.Tests.{ne-eqb, lt-ltb, le-ltb, le-leb}
-use Rattle.polynomials.specs.Indices.{upto}
+use Rattle.polynomials.specs.Tests.{neither}
+use Rattle.polynomials.specs.Indices.{upto, roundedUp}
 use Rattle.polynomials.specs.IndexLaws.{length-upto, upto-most}
 use Rattle.polynomials.specs.Lists.{Below}
-use Rattle.polynomials.specs.Blocks.{blocks}
-use Rattle.polynomials.specs.BlockLaws.{blocks-few}
-use Rattle.packed.specs.Limits.{residuePlaces}
-use Rattle.packed.specs.Answers.{answered, fine}
-use Rattle.packed.specs.AnswerLaws.{never}
-use Rattle.packed.specs.Settings.{places, InRange}
-use Rattle.packed.specs.Bounds.{bounds}
+use Rattle.polynomials.specs.BlockLaws.{rounded-up-few}
+use Rattle.settings.specs.Limits.{residuePlaces}
+use Rattle.settings.specs.Answers.{answered, fine}
+use Rattle.settings.specs.AnswerLaws.{never}
+use Rattle.settings.specs.Settings.{places, InRange}
+use Rattle.settings.specs.Bounds.{bounds}
 use Rattle.packed.specs.Running.{closeChecks, closingAt, closedSays, Closes}
 use Rattle.packed.specs.RunningChecks.{close-pass}
-use Rattle.packed.specs.declared.refusals.Refusal.{Refusal}
+use Rattle.settings.specs.declared.refusals.Refusal.{Refusal}
 use Rattle.packed.specs.declared.running.Record.{Record}
 use Rattle.packed.specs.declared.running.Closed.{Closed}
 use Rattle.packed.specs.declared.running.Closed.the-variants as inClosed
@@ -47,7 +46,7 @@ use Rattle.jobs.specs.declared.state.Stage.{Stage}
 use Rattle.jobs.specs.declared.state.Stage.the-variants as inStage
 
 abbrev pub reductionsOf : Record → ℕ
-reductionsOf r = blocks (r .setting .n) (r .sum .total)
+reductionsOf r = roundedUp (r .sum .total) (r .setting .n)
 
 abbrev pub sumsOf : Record → List ℕ
 sumsOf r = upto (places (r .setting)) (closingAt (r .setting) (r .sum))
@@ -77,7 +76,7 @@ module _ (r : Record) (pairs : ℕ) (h : Adding (r .setting) (r .sum) pairs) whe
       record {
         range = adding-range;
         pairs-most = h .most;
-        reductions-most = le-trans (blocks-few (r .setting .n) (r .sum .total) (adding-range .choice .n-low)) (h .coherent .few);
+        reductions-most = le-trans (rounded-up-few (r .sum .total) (r .setting .n) (adding-range .choice .n-low)) (h .coherent .few);
         places-most = rw length-upto few-places;
       }
 
@@ -172,4 +171,4 @@ line-fits st = go (stateCause st) refl (st .stage) refl
     go false h inStage.Pairs e = rw (line-at st inStage.Pairs h e) (adding-fits (st .running) (st .pairs) (state-adding st h e))
     go false h (inStage.Refused r) e =
         let cause : settledCause r st ≡ false = rw e at h in
-        rw (line-at st (inStage.Refused r) h e) (settled-fits r (or-eq-false-eq-eq-false-and-eq-false (refusalCause r) _ .0 cause .0))
+        rw (line-at st (inStage.Refused r) h e) (settled-fits r (neither (refusalCause r) _ cause .0))

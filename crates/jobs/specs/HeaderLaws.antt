@@ -8,7 +8,6 @@
 use Prim.Native.Nat.{ℕ, _+_, _-_, _/_, _%_, _≤_}
 use mathlib.Core.Path.{_≡_, sym, ap, _∙_}
 use mathlib.Core.Bool.{Bool, not, _||_}
-use mathlib.Mathlib.Data.Bool.Basic.{or-eq-false-eq-eq-false-and-eq-false}
 use mathlib.Core.List.{List, _++_}
 use native.Mathlib.Nat.{mul-comm, div-add-mod', zero-add, sub-zero}
 use native.Mathlib.Omega.{arith}
@@ -16,14 +15,15 @@ use lib.Dec.{ltb, eqb}
 use lib.ListN.{length, length-append, List·getD-append}
 use lib.Seq.{drop-at}
 use borrow.Author.Tests.{le-ltb, ltb-false, eqb-true, not-false}
+use Rattle.polynomials.specs.Tests.{neither}
 use Rattle.layout.specs.Numbers.{numberAt, numberAt-same}
-use Rattle.packed.specs.Limits.{mostPairs}
-use Rattle.packed.specs.Answers.{Verdict, fine, refuse, _andThen_}
-use Rattle.packed.specs.AnswerLaws.{passed, passed-last, passed-first}
-use Rattle.packed.specs.Settings.{settingChecks}
-use Rattle.packed.specs.Running.{fullCause, freshSum}
-use Rattle.packed.specs.DemandThree.{fresh-coherent}
-use Rattle.packed.specs.declared.setting.Setting.{Setting}
+use Rattle.settings.specs.Limits.{mostPairs}
+use Rattle.settings.specs.Answers.{Verdict, fine, refuse, _andThen_}
+use Rattle.settings.specs.AnswerLaws.{passed, passed-last, passed-first}
+use Rattle.settings.specs.Settings.{settingChecks}
+use Rattle.packed.specs.Running.{recordFullCause, freshSum}
+use Rattle.packed.specs.Joining.{fresh-coherent}
+use Rattle.settings.specs.declared.setting.Setting.{Setting}
 use Rattle.jobs.specs.Jobs.{headerBytes, lengthIn, versionIn, settingIn, pairBytes, declaredBytes, declaredPairs, headerCause, raggedCause, headerChecks}
 use Rattle.jobs.specs.States.{room, settling, pairsAfter, headerAfter}
 use Rattle.jobs.specs.Adding.{Adding}
@@ -41,14 +41,14 @@ header-passed bs e =
     let first = passed (headerCause bs) 17 0 _ tt e in
     let second = passed-first (settingChecks (settingIn bs)) _ tt (first .1) in
     let third = passed (raggedCause bs) 17 0 _ tt (second .1) in
-    let short = or-eq-false-eq-eq-false-and-eq-false (ltb (length bs) headerBytes) _ .0 (first .0) in
-    let others = or-eq-false-eq-eq-false-and-eq-false (not (eqb (versionIn bs) 1)) _ .0 (short .1) in
+    let short = neither (ltb (length bs) headerBytes) _ (first .0) in
+    let others = neither (not (eqb (versionIn bs) 1)) _ (short .1) in
     record {
       long = ltb-false (length bs) headerBytes (short .0);
       counted = ltb-false (lengthIn bs) 11 (others .1);
       accepted = second .0;
       whole = eqb-true (declaredBytes bs % pairBytes (settingIn bs .k)) 0 (not-false _ (third .0));
-      few = rw (zero-add (declaredPairs bs)) at (ltb-false mostPairs (0 + declaredPairs bs) (passed-last (fullCause 0 (declaredPairs bs)) 13 0 (third .1)));
+      few = rw (zero-add (declaredPairs bs)) at (ltb-false mostPairs (0 + declaredPairs bs) (passed-last (recordFullCause 0 (declaredPairs bs)) 13 0 (third .1)));
     }
 
 module _ (bs : List ℕ) (h : Header bs) where
@@ -94,7 +94,7 @@ module _ (bs ys : List ℕ) (h : headerBytes ≤ length bs) where
           refuse (b || (not (eqb v 1) || ltb n 11)) 17 0
           andThen settingChecks s
           andThen refuse (not (eqb ((n - 11) % pairBytes (s .k)) 0)) 17 0
-          andThen refuse (fullCause 0 ((n - 11) / pairBytes (s .k))) 13 0
+          andThen refuse (recordFullCause 0 ((n - 11) / pairBytes (s .k))) 13 0
 
       short : ltb (length (bs ++ ys)) headerBytes ≡ ltb (length bs) headerBytes
       short = le-ltb (length (bs ++ ys)) headerBytes (omega (arith, length-append bs ys)) ∙ sym (le-ltb (length bs) headerBytes h)

@@ -2,7 +2,8 @@
 --     Bytes bs                     every number of a list is a byte
 --     after-more                   taking bytes after others is taking them joined
 --     line-after                   finishing after bytes gives the line of the job that they are
---     Call, Calls st calls z       calls of take, one after the other, from the state st to z; pieces, all that they were given, joined
+--     TakeCall, TakeCalls st calls z
+--                                  calls of take, one after the other, from the state st to z; pieces, all that they were given, joined
 --     state-alone                  from a start the state depends on the joined bytes alone, however they are cut
 --     finish-line                  and finishing gives the job's line
 use Prim.Native.Nat.{ℕ, _+_, _-_, _*_, _/_, _≤_, _<_}
@@ -16,20 +17,20 @@ use lib.Dec.{ltb}
 use lib.ListN.{length, take, drop, length-append, length-take, length-drop, List·getD-append}
 use lib.Seq.{getD-drop, take-all, drop-append-le}
 use borrow.Author.Tests.{lt-ltb, le-ltb, lt-leb, eq-eqb, ne-eqb}
-use Rattle.polynomials.specs.Indices.{pick, upto}
-use Rattle.polynomials.specs.Blocks.{blocks}
+use Rattle.polynomials.specs.Indices.{pick, upto, roundedUp}
 use Rattle.polynomials.specs.Lists.{coefficient}
 use Rattle.polynomials.specs.ListLaws.{coefficient-after}
-use Rattle.packed.specs.Answers.{answered, refused, Verdict, fine, refuse, _andThen_}
-use Rattle.packed.specs.SharedAnswers.{Writes}
-use Rattle.packed.specs.Settings.{places}
-use Rattle.packed.specs.Coefficients.{firstBad, coefficientCheck, taken}
-use Rattle.packed.specs.Bounds.{bounds}
+use Rattle.settings.specs.Answers.{answered, refused, Verdict, fine, refuse, _andThen_}
+use Rattle.settings.specs.SharedAnswers.{Writes}
+use Rattle.settings.specs.Settings.{places}
+use Rattle.settings.specs.Coefficients.{firstBad, coefficientCheck}
+use Rattle.packed.specs.Taken.{taken}
+use Rattle.settings.specs.Bounds.{bounds}
 use Rattle.packed.specs.Running.{freshSum, recordOf, closingAt}
 use Rattle.packed.specs.Calls.{schoolbook}
-use Rattle.packed.specs.DemandThree.{sum-fresh, closing-sum}
-use Rattle.packed.specs.declared.answers.Wrote.{Wrote}
-use Rattle.packed.specs.declared.setting.Setting.{Setting}
+use Rattle.packed.specs.SumOfPairs.{sum-fresh, closing-sum}
+use Rattle.settings.specs.declared.answers.Wrote.{Wrote}
+use Rattle.settings.specs.declared.setting.Setting.{Setting}
 use Rattle.packed.specs.declared.running.Sum.{Sum}
 use Rattle.jobs.specs.Lines.{sumsLine, refusedLine}
 use Rattle.jobs.specs.Jobs.{headerBytes, lengthIn, settingIn, pairBytes, declaredBytes, declaredPairs, coefficientsIn, pairsIn, givenIn, endCause, jobPairs, headerChecks, jobChecks, lineBy, jobLine}
@@ -157,7 +158,7 @@ module _ (bs : List ℕ) (b : Bytes bs) (e : headerChecks bs ≡ fine) where
   after = sumAfter s freshSum rest
 
   abbrev line : List ℕ
-  line = sumsLine s (declaredPairs bs) (blocks (s .n) (declaredPairs bs)) (schoolbook s (jobPairs bs))
+  line = sumsLine s (declaredPairs bs) (roundedUp (declaredPairs bs) (s .n)) (schoolbook s (jobPairs bs))
 
   module _ (f : Fits s freshSum (declaredPairs bs) rest) where
     abbrev next : State
@@ -249,15 +250,15 @@ line-after bs b = go (decLt (length bs) headerBytes) (headerChecks bs) refl
 
 -- ---- any pieces
 
-pub record Call : Type 0 where
+pub record TakeCall : Type 0 where
   pub piece : List ℕ
   pub gave : State
 
-abbrev pub Calls : State → List Call → State → Type 0
-Calls st [] z = st ≡ z
-Calls st (c ∷ calls) z = Bytes (c .piece) × Takes st (c .piece) (c .gave) × Calls (c .gave) calls z
+abbrev pub TakeCalls : State → List TakeCall → State → Type 0
+TakeCalls st [] z = st ≡ z
+TakeCalls st (c ∷ calls) z = Bytes (c .piece) × Takes st (c .piece) (c .gave) × TakeCalls (c .gave) calls z
 
-abbrev pub pieces : List Call → List ℕ
+abbrev pub pieces : List TakeCall → List ℕ
 pieces [] = []
 pieces (c ∷ calls) = c .piece ++ pieces calls
 
@@ -268,7 +269,7 @@ bytes-join xs ys hx hy j = go (decLt j (length xs))
     go (yes l) = rw (List·getD-append xs ys 0 j l) (hx j)
     go (no l) = rw (coefficient-after xs ys j (omega arith)) (hy (j - length xs))
 
-calls-after : (bs : List ℕ) → Bytes bs → (calls : List Call) (z : State) → Calls (headerAfter bs) calls z → Bytes (bs ++ pieces calls) × (z ≡ headerAfter (bs ++ pieces calls))
+calls-after : (bs : List ℕ) → Bytes bs → (calls : List TakeCall) (z : State) → TakeCalls (headerAfter bs) calls z → Bytes (bs ++ pieces calls) × (z ≡ headerAfter (bs ++ pieces calls))
 calls-after bs b [] z e = rw (append-nil bs) (b, sym e)
 calls-after bs b (c ∷ calls) z e =
     let next : c .gave ≡ headerAfter (bs ++ c .piece) = e .1 ∙ after-more bs (c .piece) b in
@@ -278,7 +279,7 @@ start-after : heading [] ≡ headerAfter []
 unfolding headerAfter
 start-after = refl
 
-module _ (st z : State) (calls : List Call) (began : Starts st) (took : Calls st calls z) where
+module _ (st z : State) (calls : List TakeCall) (began : Starts st) (took : TakeCalls st calls z) where
   reached : Bytes (pieces calls) × (z ≡ headerAfter (pieces calls))
   reached = calls-after [] (λ j. omega arith) calls z (rw (began ∙ start-after) at took)
 

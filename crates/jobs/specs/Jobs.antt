@@ -22,16 +22,17 @@ use mathlib.Core.Bool.{Bool, not, _||_}
 use mathlib.Core.List.{List}
 use lib.Dec.{ltb, eqb}
 use lib.ListN.{length, take, drop}
-use Rattle.polynomials.specs.Indices.{upto}
+use Rattle.polynomials.specs.Indices.{upto, roundedUp}
 use Rattle.polynomials.specs.Lists.{Pair}
-use Rattle.polynomials.specs.Blocks.{blocks, block, pairsUpto}
+use Rattle.polynomials.specs.Blocks.{block, pairsUpto}
 use Rattle.layout.specs.Numbers.{numberAt}
-use Rattle.packed.specs.Answers.{answered, refused, Verdict, refuse, _andThen_}
-use Rattle.packed.specs.Settings.{settingChecks}
-use Rattle.packed.specs.Coefficients.{coefficientCheck, taken}
-use Rattle.packed.specs.Running.{fullCause}
+use Rattle.settings.specs.Answers.{answered, refused, Verdict, refuse, _andThen_}
+use Rattle.settings.specs.Settings.{settingChecks}
+use Rattle.settings.specs.Coefficients.{coefficientCheck}
+use Rattle.packed.specs.Taken.{taken}
+use Rattle.packed.specs.Running.{recordFullCause}
 use Rattle.packed.specs.Calls.{schoolbook}
-use Rattle.packed.specs.declared.setting.Setting.{Setting}
+use Rattle.settings.specs.declared.setting.Setting.{Setting}
 use Rattle.jobs.specs.Lines.{sumsLine, refusedLine}
 
 -- ---- the header
@@ -90,7 +91,7 @@ headerChecks bs =
     refuse (headerCause bs) 17 0
     andThen settingChecks (settingIn bs)
     andThen refuse (raggedCause bs) 17 0
-    andThen refuse (fullCause 0 (declaredPairs bs)) 13 0
+    andThen refuse (recordFullCause 0 (declaredPairs bs)) 13 0
 
 unfoldable pub jobChecks : List ℕ → Verdict
 jobChecks bs = headerChecks bs andThen coefficientCheck (settingIn bs .p) (givenIn bs) andThen refuse (endCause bs) 17 0
@@ -102,4 +103,4 @@ lineBy (refused number place) line = refusedLine number place
 unfoldable pub jobLine : List ℕ → List ℕ
 jobLine bs =
     let s : Setting = settingIn bs in
-    lineBy (jobChecks bs) (sumsLine s (declaredPairs bs) (blocks (s .n) (declaredPairs bs)) (schoolbook s (jobPairs bs)))
+    lineBy (jobChecks bs) (sumsLine s (declaredPairs bs) (roundedUp (declaredPairs bs) (s .n)) (schoolbook s (jobPairs bs)))

@@ -11,7 +11,7 @@ use native.Mathlib.Omega.{arith}
 use lib.ListN.{length, length-append}
 use Rattle.polynomials.specs.Lists.{Below}
 use Rattle.layout.specs.Decimals.{decimal, isDigit, numbersIn, length-decimal, reading-decimal}
-use Rattle.packed.specs.declared.setting.Setting.{Setting}
+use Rattle.settings.specs.declared.setting.Setting.{Setting}
 use Rattle.jobs.specs.Lines.{space, colon, lineEnd, spaced, sumsLine, refusedLine}
 use Rattle.jobs.specs.Texts.{longestLine, Short}
 use Rattle.jobs.specs.TextLaws.{word-digits, length-list, few-digits}

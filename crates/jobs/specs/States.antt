@@ -14,7 +14,7 @@
 --     sumAfter s u bs               the sum after the whole pairs in bytes
 --     pairsAfter s u pairs bs       whole pairs are added up, and the rest is held
 --     headerAfter bs                as soon as the header is complete its checks are made
---     heldMost, unusedCause, residueCause, blankCause, idleCause, refusalCause, headingCause, addingCause, settledCause, causeAt, stateCause
+--     heldMost, unusedCause, nonzeroCause, blankCause, idleCause, refusalCause, headingCause, addingCause, settledCause, causeAt, stateCause
 --                                   12 Record: a state that is not coherent
 --     takenAt, takenBy st piece     what take makes of a state: one that is not coherent stays as it is
 --     addingLine r pairs            17 for an early end, or the sums
@@ -27,18 +27,18 @@ use mathlib.Core.Bool.{Bool, not, _||_, _&&_}
 use mathlib.Core.List.{List, [], _++_}
 use lib.Dec.{ltb, leb, eqb}
 use lib.ListN.{length, take, drop}
-use Rattle.polynomials.specs.Indices.{pick, upto, exceeds}
+use Rattle.polynomials.specs.Indices.{pick, upto, exceeds, roundedUp}
 use Rattle.polynomials.specs.Lists.{coefficient}
-use Rattle.polynomials.specs.Blocks.{blocks}
-use Rattle.packed.specs.Limits.{mostPairs, mostCoefficients}
-use Rattle.packed.specs.Answers.{answered, refused, Verdict, refuse, _andThen_}
-use Rattle.packed.specs.SharedAnswers.{shortCause, Writes, writes-once}
-use Rattle.packed.specs.Settings.{places, outside}
-use Rattle.packed.specs.Coefficients.{firstBad, taken}
+use Rattle.settings.specs.Limits.{mostPairs, mostCoefficients}
+use Rattle.settings.specs.Answers.{answered, refused, Verdict, refuse, _andThen_}
+use Rattle.settings.specs.SharedAnswers.{shortCause, Writes, writes-once}
+use Rattle.settings.specs.Settings.{places, outside}
+use Rattle.settings.specs.Coefficients.{firstBad}
+use Rattle.packed.specs.Taken.{taken}
 use Rattle.packed.specs.Running.{recordCause, closingAt, afterPairs, freshSum, recordOf}
-use Rattle.packed.specs.declared.answers.Wrote.{Wrote}
-use Rattle.packed.specs.declared.refusals.Refusal.{Refusal}
-use Rattle.packed.specs.declared.setting.Setting.{Setting}
+use Rattle.settings.specs.declared.answers.Wrote.{Wrote}
+use Rattle.settings.specs.declared.refusals.Refusal.{Refusal}
+use Rattle.settings.specs.declared.setting.Setting.{Setting}
 use Rattle.packed.specs.declared.running.Sum.{Sum}
 use Rattle.packed.specs.declared.running.Record.{Record}
 use Rattle.jobs.specs.Lines.{sumsLine, refusedLine}
@@ -112,8 +112,8 @@ heldMost size j = pick (ltb j size) 255 0
 abbrev pub unusedCause : ℕ → List ℕ → Bool
 unusedCause size held = exceeds (length held) (coefficient held) (heldMost size)
 
-abbrev pub residueCause : List ℕ → Bool
-residueCause rs = exceeds (length rs) (coefficient rs) (λ j. 0)
+abbrev pub nonzeroCause : List ℕ → Bool
+nonzeroCause rs = exceeds (length rs) (coefficient rs) (λ j. 0)
 
 abbrev pub blankCause : Record → Bool
 blankCause r =
@@ -123,7 +123,7 @@ blankCause r =
     || (not (eqb (r .setting .n) 0)
     || (not (eqb (r .sum .total) 0)
     || (not (eqb (r .sum .word) 0)
-    || residueCause (r .sum .residues))))))
+    || nonzeroCause (r .sum .residues))))))
 
 -- a record or declared pairs where there are none yet, or none any more
 abbrev pub idleCause : State → Bool
@@ -176,7 +176,7 @@ addingLine r pairs =
     let s : Setting = r .setting in
     pick (ltb (r .sum .total) pairs)
     (refusedLine 17 0)
-    (sumsLine s pairs (blocks (s .n) (r .sum .total)) (upto (places s) (closingAt s (r .sum))))
+    (sumsLine s pairs (roundedUp (r .sum .total) (s .n)) (upto (places s) (closingAt s (r .sum))))
 
 abbrev pub lineAt : Stage → State → List ℕ
 lineAt inStage.Header st = refusedLine 17 0

@@ -25,11 +25,11 @@ use Rattle.polynomials.specs.IndexLaws.{upto-at, first-is, first-only}
 use Rattle.polynomials.specs.Lists.{coefficient, Below}
 use Rattle.polynomials.specs.ListLaws.{coefficient-after}
 use Rattle.layout.specs.Numbers.{numberAt, numberAt-same}
-use Rattle.packed.specs.Answers.{answered, refused, Verdict, fine, refuse, _andThen_}
-use Rattle.packed.specs.AnswerLaws.{never, passed, passed-last}
-use Rattle.packed.specs.Coefficients.{tooLarge, firstBad, coefficientCheck, coefficient-check}
-use Rattle.packed.specs.Bounds.{bounds}
-use Rattle.packed.specs.declared.setting.Setting.{Setting}
+use Rattle.settings.specs.Answers.{answered, refused, Verdict, fine, refuse, _andThen_}
+use Rattle.settings.specs.AnswerLaws.{never, passed, passed-last}
+use Rattle.settings.specs.Coefficients.{tooLarge, firstBad, coefficientCheck, coefficient-check}
+use Rattle.settings.specs.Bounds.{bounds}
+use Rattle.settings.specs.declared.setting.Setting.{Setting}
 use Rattle.packed.specs.declared.running.Sum.{Sum}
 use Rattle.jobs.specs.declared.state.State.{State}
 use Rattle.jobs.specs.declared.state.Stage.{Stage}
@@ -38,7 +38,7 @@ use Rattle.jobs.specs.Jobs.{pairBytes, coefficientsIn}
 use Rattle.jobs.specs.States.{room, indexCheck, bodyChecks, wholeBytes, sumAfter, adding, settled, settling, pairsAfter}
 use Rattle.jobs.specs.Adding.{Adding, Feedable}
 use Rattle.jobs.specs.ByteLaws.{length-coefficientsIn}
-use Rattle.jobs.specs.AddingLaws.{k-some, below-parts, share, pairs-even, coefficients-join, sum-join, sum-none, sum-total, sum-coherent}
+use Rattle.jobs.specs.AddingLaws.{k-some, below-parts, share, pairs-even, coefficients-join, sum-after-join, sum-after-none, sum-total, sum-coherent}
 
 -- whether pairs are added up at a stage
 abbrev pub adds : Stage → Bool
@@ -153,7 +153,7 @@ module _ (s : Setting) (u : Sum) (pairs : ℕ) (a : Adding s u pairs) where
 
     pub pairs-step : pairsAfter s u pairs (xs ++ ys) ≡ pairsAfter s v pairs ys
     unfolding pairsAfter
-    pairs-step = rw (checks-step, sum-join s u (k-some s u (a .coherent)) m xs ys h, whole, drop-append-add xs ys (wholeBytes (s .k) (length ys)))
+    pairs-step = rw (checks-step, sum-after-join s u (k-some s u (a .coherent)) m xs ys h, whole, drop-append-add xs ys (wholeBytes (s .k) (length ys)))
 
   -- ---- bytes that fit, and then others
 
@@ -195,7 +195,7 @@ module _ (s : Setting) (u : Sum) (pairs : ℕ) (a : Adding s u pairs) where
         fewer l = le-of-mul-le-mul-right l (omega (arith, (k-some s u (a .coherent))))
 
     pub front-sum : sumAfter s u front ≡ sumAfter s u bs
-    front-sum = sym (ap (sumAfter s u) (sym both-parts) ∙ sum-join s u (k-some s u (a .coherent)) m2 front back front-size ∙ sum-none s (sumAfter s u front) (k-some s u (a .coherent)) back back-short)
+    front-sum = sym (ap (sumAfter s u) (sym both-parts) ∙ sum-after-join s u (k-some s u (a .coherent)) m2 front back front-size ∙ sum-after-none s (sumAfter s u front) (k-some s u (a .coherent)) back back-short)
 
     pub front-feedable : Feedable s u front
     front-feedable = record {

@@ -34,9 +34,9 @@ use Rattle.polynomials.specs.IndexLaws.{length-upto, upto-at, upto-same}
 use Rattle.polynomials.specs.Lists.{coefficient, Below}
 use Rattle.polynomials.specs.ListLaws.{lists-agree, coefficient-zeros}
 use Rattle.layout.specs.Decimals.{digits, decimal, digits-most, length-decimal, decimal-at}
-use Rattle.packed.specs.SharedAnswers.{writes-nothing, writes-list}
-use Rattle.packed.specs.declared.setting.Setting.{Setting}
-use Rattle.packed.specs.declared.answers.Wrote.the-variants as inWrote
+use Rattle.settings.specs.SharedAnswers.{writes-nothing, writes-list}
+use Rattle.settings.specs.declared.setting.Setting.{Setting}
+use Rattle.settings.specs.declared.answers.Wrote.the-variants as inWrote
 use Rattle.jobs.specs.Lines.{space, colon, lineEnd, spaced, sumsLine, refusedWord, refusedLine}
 use Rattle.jobs.specs.States.{finishChecks}
 use Rattle.jobs.specs.Texts.{longestLine, textOf, Extends, Short, Puts}

@@ -11,11 +11,11 @@ use mathlib.Core.List.{List, _++_}
 use lib.ListN.{length}
 use Rattle.polynomials.specs.Indices.{upto}
 use Rattle.polynomials.specs.Lists.{coefficient}
-use Rattle.packed.specs.Limits.{mostPairs, residuePlaces}
-use Rattle.packed.specs.SharedAnswers.{Writes}
-use Rattle.packed.specs.Settings.{InRange}
-use Rattle.packed.specs.declared.answers.Wrote.{Wrote}
-use Rattle.packed.specs.declared.setting.Setting.{Setting}
+use Rattle.settings.specs.Limits.{mostPairs, residuePlaces}
+use Rattle.settings.specs.SharedAnswers.{Writes}
+use Rattle.settings.specs.Settings.{InRange}
+use Rattle.settings.specs.declared.answers.Wrote.{Wrote}
+use Rattle.settings.specs.declared.setting.Setting.{Setting}
 use Rattle.jobs.specs.States.{finishChecks}
 use Rattle.jobs.specs.declared.line.Line.{Line}
 

@@ -3,7 +3,7 @@ ghost use mathlib.Core.Path.{_≡_};
 ghost use mathlib.Core.Bool.{false};
 ghost use mathlib.Core.List.{_++_};
 ghost use Prim.Native.Nat.{_+_, _-_, _*_, _^_, _≤_};
-ghost use Rattle.packed.specs.Limits.{mostCoefficients, mostPairs};
+ghost use Rattle.settings.specs.Limits.{mostCoefficients, mostPairs};
 ghost use Rattle.packed.specs.Running.{recordOf};
 ghost use Rattle.jobs.specs.Jobs.{pairBytes};
 ghost use Rattle.jobs.specs.States.{heldIn, room, wholeBytes, sumAfter, pairsAfter, addingCause};
@@ -16,9 +16,9 @@ use crate::bytes::take_apart;
 use crate::header::refused;
 use crate::state::Stage;
 use crate::state::State;
-use packed::refusals;
 use packed::running::Record;
 use packed::running::feed;
+use settings::refusals;
 
 // The open pair is made whole first, if there is enough for it.
 pub fn take_pairs(state: State, piece: &[u8]) -> State

@@ -6,7 +6,7 @@ ghost use lib.ListN.{length};
 ghost use Rattle.polynomials.specs.Indices.{upto};
 ghost use Rattle.polynomials.specs.Lists.{coefficient};
 ghost use Rattle.layout.specs.Numbers.{numberAt};
-ghost use Rattle.packed.specs.Coefficients.{firstBad, NoneAbove};
+ghost use Rattle.settings.specs.Coefficients.{firstBad, NoneAbove};
 ghost use Rattle.jobs.specs.Jobs.{coefficientsIn};
 ghost use Rattle.jobs.specs.States.{heldBytes};
 ghost use Rattle.jobs.specs.Apart.{Raised, blockSize, Copying, Copied, Parting, TakenApart};
@@ -15,7 +15,7 @@ use crate::state::HELD;
 // How many coefficients of each side are taken apart at a time: 256 pairs of the longest polynomials, and more of shorter ones.
 pub const BLOCK: usize = 2048;
 
-pub fn wide(x: u8) -> u64
+pub fn wide_byte(x: u8) -> u64
     ensures { λ r. ⌜ r ≡ x ⌝ }
 {
     x as u64
@@ -35,7 +35,7 @@ pub fn one(bytes: &[u8], i: usize) -> u64
     requires { ⌜ i < length (now bytes) ⌝ }
     ensures { λ r. ⌜ r ≡ numberAt (now (bytes .entry)) i 1 ⌝ }
 {
-    wide(bytes[i])
+    wide_byte(bytes[i])
 }
 
 // The number in the four bytes from place i on, big-endian.
@@ -49,7 +49,7 @@ pub fn four(bytes: &[u8], i: usize) -> u64
 fn highest_first(a: u8, b: u8, c: u8, d: u8) -> u64
     ensures { λ r. ⌜ r ≡ ((a * 256 + b) * 256 + c) * 256 + d ⌝ }
 {
-    ((wide(a) * 256 + wide(b)) * 256 + wide(c)) * 256 + wide(d)
+    ((wide_byte(a) * 256 + wide_byte(b)) * 256 + wide_byte(c)) * 256 + wide_byte(d)
 }
 
 // Coefficient i.
@@ -57,7 +57,7 @@ fn coefficient_at(bytes: &[u8], i: usize) -> u16
     requires { ⌜ i < length (now bytes) / 2 ⌝ }
     ensures { λ r. ⌜ r ≡ coefficient (coefficientsIn (now (bytes .entry))) i ⌝ }
 {
-    (wide(bytes[2 * i]) * 256 + wide(bytes[2 * i + 1])) as u16
+    (wide_byte(bytes[2 * i]) * 256 + wide_byte(bytes[2 * i + 1])) as u16
 }
 
 // The index of the first coefficient that is p or more, in input order, and their number where there is none. It is searched for only where

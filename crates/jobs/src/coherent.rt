@@ -1,20 +1,21 @@
 // 12 for a state: whether it is one that no bytes give.
 ghost use mathlib.Core.Path.{_≡_};
 ghost use Rattle.packed.specs.Running.{recordCause};
-ghost use Rattle.jobs.specs.States.{heldMost, unusedCause, residueCause, blankCause, idleCause, headingCause, refusalCause, settledCause, addingCause, stateCause};
+ghost use Rattle.jobs.specs.States.{heldMost, unusedCause, nonzeroCause, blankCause, idleCause, headingCause, refusalCause, settledCause, addingCause, stateCause};
 use crate::adding::bytes_to_come;
 use crate::adding::pair_bytes;
 use crate::bytes::first_bad;
-use crate::bytes::wide;
+use crate::bytes::wide_byte;
 use crate::header::HEADER_SIZE;
 use crate::state::Stage;
 use crate::state::State;
-use packed::limits::MOST_COEFFICIENTS;
-use packed::limits::MOST_PAIRS;
-use packed::refusals::Refusal;
+use packed::running::Counted;
 use packed::running::Record;
-use packed::running::Taken;
 use packed::running::feed;
+use settings::limits::MOST_COEFFICIENTS;
+use settings::limits::MOST_PAIRS;
+use settings::numbers;
+use settings::refusals::Refusal;
 
 // The indices of coefficients in a job of the most and the longest pairs.
 const MOST_INDICES: u64 = 2 * MOST_COEFFICIENTS * MOST_PAIRS;
@@ -97,8 +98,8 @@ fn record_cause(running: Record) -> bool
     let fed = feed(running, &xs[..0], &ys[..0]);
     let answer = fed.answer;
     match answer {
-        Taken::Pairs(m) => false,
-        Taken::Refused(r) => true,
+        Counted::Pairs(m) => false,
+        Counted::Refused(r) => true,
     }
 }
 
@@ -108,7 +109,7 @@ fn unused_cause(size: usize, held: &[u8]) -> bool
 {
     let mut j = 0;
     while j < held.len() {
-        if held_most(size, j) < wide(held[j]) {
+        if held_most(size, j) < wide_byte(held[j]) {
             return true;
         }
         j += 1;
@@ -158,12 +159,12 @@ fn blank_cause(running: Record) -> bool
         return true;
     }
     let residues = sum.residues;
-    residues_cause(&residues)
+    nonzero_cause(&residues)
 }
 
 // A residue is not zero.
-fn residues_cause(residues: &[u16]) -> bool
-    ensures { λ r. ⌜ r ≡ residueCause (now (residues .entry)) ⌝ }
+fn nonzero_cause(residues: &[u16]) -> bool
+    ensures { λ r. ⌜ r ≡ nonzeroCause (now (residues .entry)) ⌝ }
 {
     let mut j = 0;
     while j < residues.len() {
@@ -179,20 +180,20 @@ fn residues_cause(residues: &[u16]) -> bool
 fn refusal_cause(why: Refusal) -> bool
     ensures { λ r. ⌜ r ≡ refusalCause why ⌝ }
 {
-    if why.number == 8 {
+    if why.number == numbers::COEFFICIENT {
         return MOST_INDICES <= why.place;
     }
     if why.place != 0 {
         return true;
     }
-    if why.number == 13 {
+    if why.number == numbers::FULL {
         return false;
     }
-    if why.number == 17 {
+    if why.number == numbers::JOB {
         return false;
     }
-    if why.number < 1 {
+    if why.number < numbers::MODULUS {
         return true;
     }
-    6 < why.number
+    numbers::ROOM < why.number
 }

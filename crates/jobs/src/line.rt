@@ -12,13 +12,14 @@ use crate::coherent::state_cause;
 use crate::state::LONGEST_LINE;
 use crate::state::Stage;
 use crate::state::State;
-use packed::answers::Wrote;
-use packed::refusals;
-use packed::refusals::Refusal;
 use packed::running::Closed;
 use packed::running::Record;
 use packed::running::close;
-use packed::setting::Setting;
+use settings::answers::Wrote;
+use settings::limits::RESIDUE_PLACES;
+use settings::refusals;
+use settings::refusals::Refusal;
+use settings::setting::Setting;
 
 pub struct Line {
     pub bytes: [u8; LONGEST_LINE],
@@ -49,7 +50,7 @@ fn pairs_line(running: Record, pairs: u64) -> Line
     if sum.total < pairs {
         return refused_line(refusals::JOB);
     }
-    let mut sums = [0u16; 15];
+    let mut sums = [0u16; RESIDUE_PLACES];
     let Closed::Reductions(m) = close(running, &mut sums) else {
         return refused_line(refusals::RECORD);
     };

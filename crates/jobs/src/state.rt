@@ -6,9 +6,9 @@ use crate::header::blank;
 use crate::header::take_header;
 use crate::line::line_of;
 use crate::line::put;
-use packed::answers::Wrote;
-use packed::refusals::Refusal;
 use packed::running::Record;
+use settings::answers::Wrote;
+use settings::refusals::Refusal;
 
 // A buffer of so many bytes has room for every line.
 pub const LONGEST_LINE: usize = 126;

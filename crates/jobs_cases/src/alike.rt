@@ -4,10 +4,10 @@ use check::same;
 use jobs::state::HELD;
 use jobs::state::Stage;
 use jobs::state::State;
-use packed::refusals::Refusal;
 use packed::running::Record;
 use packed::running::Sum;
-use packed::setting::Setting;
+use settings::refusals::Refusal;
+use settings::setting::Setting;
 
 pub fn is_same_line(a: Line, b: Line) -> bool {
     if a.size != b.size {

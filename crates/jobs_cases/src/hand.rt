@@ -2,7 +2,7 @@
 use jobs::state::HELD;
 use packed::running::Record;
 use packed::running::Sum;
-use packed::setting::Setting;
+use settings::setting::Setting;
 
 pub const ALL: u64 = 18446744073709551615;
 

@@ -9,8 +9,8 @@ use crate::shown::show_taken;
 use jobs::state::HELD;
 use jobs::state::Stage;
 use jobs::state::State;
-use packed::refusals::Refusal;
 use packed::running::Record;
+use settings::refusals::Refusal;
 
 pub fn show_settled() {
     numbers();

@@ -4,7 +4,7 @@ use jobs::state::Stage;
 use jobs::state::State;
 use jobs::state::finish;
 use jobs::state::take;
-use packed::answers::Wrote;
+use settings::answers::Wrote;
 
 // A line as finish wrote it, with zeros after it.
 pub struct Line {

@@ -18,10 +18,10 @@ use lib.ListN.{length}
 use lib.Pow.{pow-mono}
 use borrow.Author.Tests.{lt-ltb, le-ltb, le-leb, lt-leb, ltb-true, ltb-false, leb-false}
 use Rattle.polynomials.specs.Lists.{Below}
-use Rattle.packed.specs.Answers.{refused, fine, refuse, _andThen_}
-use Rattle.packed.specs.AnswerLaws.{passed, passed-first, passed-last}
-use Rattle.packed.specs.SharedAnswers.{shortCause}
-use Rattle.packed.specs.Coefficients.{firstBad, coefficientCheck, coefficientsCheck, coefficient-check}
+use Rattle.settings.specs.Answers.{refused, fine, refuse, _andThen_}
+use Rattle.settings.specs.AnswerLaws.{passed, passed-first, passed-last}
+use Rattle.settings.specs.SharedAnswers.{shortCause}
+use Rattle.settings.specs.Coefficients.{firstBad, coefficientCheck, coefficientsCheck, coefficient-check}
 use Rattle.labels.specs.Labels.{modulus, highestLevel, mostWords, mostChecks, checkCount, levelCause, fewCause, manyCause, writeChecks, readChecks}
 
 pub count-low : (s : ℕ) → 2 ≤ checkCount s

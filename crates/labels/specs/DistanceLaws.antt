@@ -25,7 +25,7 @@ use Rattle.divisions.specs.ValueLaws.{packed-sum-of}
 use Rattle.divisions.specs.PowerLaws.{power-again, power-cancels}
 use Rattle.divisions.specs.Differences.{unlike, differences}
 use Rattle.divisions.specs.DifferenceLaws.{differences-turned}
-use Rattle.divisions.specs.IndependenceLaws.{sum-most, unlike-most, Cancels, some, count, minus-itself, sum-minus, independent}
+use Rattle.divisions.specs.IndependenceLaws.{sum-most, unlike-most, Cancels, weighs, count, minus-itself, sum-minus, independent}
 use Rattle.labels.specs.Labels.{modulus, mostWords, checkCount, root, power, cycle, passes}
 use Rattle.labels.specs.RootLaws.{three-cycles}
 use Rattle.labels.specs.LabelLaws.{vanishes-exactly}
@@ -124,7 +124,7 @@ module _ (s : ℕ) (words others : List ℕ) (below : Below modulus words) (othe
   weight-count : count modulus n weight ≤ checkCount s
   weight-count =
       let none : (i : ℕ) → coefficient a i ≡ coefficient b i → weight i % modulus ≡ 0 = λ i e. rw (minus-itself modulus (coefficient a i) (coefficient b i) (omega arith) e) in
-      omega (arith, sum-most n (some modulus weight) (unlike a b) (λ i l. unlike-most (coefficient a i) (coefficient b i) (weight i % modulus) 0 (none i)), differences-turned words others size)
+      omega (arith, sum-most n (weighs modulus weight) (unlike a b) (λ i l. unlike-most (coefficient a i) (coefficient b i) (weight i % modulus) 0 (none i)), differences-turned words others size)
 
   weight-none : (i : ℕ) → i < n → weight i % modulus ≡ 0
   weight-none =

@@ -20,7 +20,7 @@ use Rattle.polynomials.specs.ListLaws.{lists-agree, coefficient-past, coefficie
 use Rattle.divisions.specs.Divisions.{degree, term, less, cancelled, divided}
 use Rattle.divisions.specs.CongruenceLaws.{minus-zero, residues-below, length-less, coefficient-less, less-below, less-residues, term-product, term-product-low}
 use Rattle.packed.specs.Products.{Multiplies}
-use Rattle.packed.specs.declared.answers.Wrote.{Wrote}
+use Rattle.settings.specs.declared.answers.Wrote.{Wrote}
 use Rattle.labels.specs.Labels.{modulus, mostChecks}
 use Rattle.labels.specs.Working.{Divisor, Dividing}
 use Rattle.labels.specs.SettingLaws.{labelSetting}

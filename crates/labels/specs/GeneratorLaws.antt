@@ -1,6 +1,6 @@
 -- What the workers of the generator need of lists. Assumes nothing.
 --     longer-size, root-written         a list times (x - 3^j): how many words product writes, and what copying them leaves
---     Made old j out                    the generator stands in the first j places, and after them what stood there
+--     GeneratorUpTo old j out           the generator stands in the first j places, and after them what stood there
 --     making-begun, making-size, making-below, making-turn, making-ended
 --                                       the loop that makes it: its start, its length, what it multiplies, its turn, its end
 use Prim.Native.Nat.{ℕ, suc, _+_, _-_, _≤_, _<_}
@@ -17,7 +17,7 @@ use Rattle.divisions.specs.Values.{linear, withRoots}
 use Rattle.divisions.specs.CongruenceLaws.{minus-residue}
 use Rattle.divisions.specs.ValueLaws.{length-withRoots, roots-below, linear-below}
 use Rattle.packed.specs.Products.{Multiplies}
-use Rattle.packed.specs.declared.answers.Wrote.{Wrote}
+use Rattle.settings.specs.declared.answers.Wrote.{Wrote}
 use Rattle.labels.specs.Labels.{modulus, mostChecks, root, power, generator}
 use Rattle.labels.specs.Working.{timesRoot}
 use Rattle.labels.specs.SettingLaws.{labelSetting}
@@ -51,17 +51,17 @@ root-more : (j k : ℕ) → j ≡ suc k → timesRoot j (generator k) ≡ genera
 unfolding withRoots
 root-more j k e = rw e
 
-pub record Made (old : List ℕ) (j : ℕ) (out : List ℕ) : Type 0 where
+pub record GeneratorUpTo (old : List ℕ) (j : ℕ) (out : List ℕ) : Type 0 where
   pub some : 0 < j
   pub within : j ≤ length old
   pub words : out ≡ generator (j - 1) ++ drop j old
 
-pub making-begun : (xs : List ℕ) → 0 < length xs → Made (set xs 0 1) 1 (set xs 0 1)
+pub making-begun : (xs : List ℕ) → 0 < length xs → GeneratorUpTo (set xs 0 1) 1 (set xs 0 1)
 unfolding withRoots
 making-begun [] h = absurd (omega arith)
 making-begun (x ∷ xs) h = record { some = omega arith; within = omega arith; words = refl }
 
-module _ (old : List ℕ) (j : ℕ) (out : List ℕ) (m : Made old j out) where
+module _ (old : List ℕ) (j : ℕ) (out : List ℕ) (m : GeneratorUpTo old j out) where
   made-size : length (generator (j - 1)) ≡ j
   made-size = length-withRoots modulus root (j - 1) ∙ omega (arith, m .some)
 
@@ -79,7 +79,7 @@ module _ (old : List ℕ) (j : ℕ) (out : List ℕ) (m : Made old j out) where
       let after : drop j out ≡ drop j old = rw (m .words) (drop-at (generator (j - 1)) (drop j old) j made-size) in
       sym (drop-drop 1 j out) ∙ rw after (drop-drop 1 j old)
 
-  pub making-turn : (now : List ℕ) → j < length old → now ≡ timesRoot j (take j out) ++ drop (j + 1) out → Made old (j + 1) now
+  pub making-turn : (now : List ℕ) → j < length old → now ≡ timesRoot j (take j out) ++ drop (j + 1) out → GeneratorUpTo old (j + 1) now
   making-turn now l e =
       let next : j + 1 - 1 ≡ j = omega arith in
       record { some = omega arith; within = omega arith; words = rw next (e ∙ rw (made-first, made-rest, root-more j (j - 1) (omega (arith, m .some)))) }

@@ -24,11 +24,11 @@ use lib.ListN.{length, replicate}
 use Rattle.polynomials.specs.Indices.{exceeds}
 use Rattle.divisions.specs.Divisions.{less, remainder}
 use Rattle.divisions.specs.Values.{value, withRoots}
-use Rattle.packed.specs.Answers.{Answer, answered, refused, Verdict, refuse, _andThen_}
-use Rattle.packed.specs.AnswerLaws.{once}
-use Rattle.packed.specs.SharedAnswers.{shortCause, Writes, writes-once}
-use Rattle.packed.specs.Coefficients.{coefficientCheck}
-use Rattle.packed.specs.declared.answers.Wrote.{Wrote}
+use Rattle.settings.specs.Answers.{Answer, answered, refused, Verdict, refuse, _andThen_}
+use Rattle.settings.specs.AnswerLaws.{once}
+use Rattle.settings.specs.SharedAnswers.{shortCause, Writes, writes-once}
+use Rattle.settings.specs.Coefficients.{coefficientCheck}
+use Rattle.settings.specs.declared.answers.Wrote.{Wrote}
 use Rattle.labels.specs.declared.Passing.{Passing}
 use Rattle.labels.specs.declared.Passing.the-variants.{Passes, Fails, Refused}
 

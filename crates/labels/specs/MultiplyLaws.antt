@@ -10,12 +10,12 @@ use lib.Seq.{take-at}
 use borrow.Author.Tests.{le-ltb}
 use Rattle.polynomials.specs.Lists.{productLength, product, residues, Below}
 use Rattle.polynomials.specs.ListLaws.{length-residues, length-product}
-use Rattle.packed.specs.Answers.{fine}
-use Rattle.packed.specs.Limits.{longestFactor}
-use Rattle.packed.specs.Coefficients.{coefficients-check}
+use Rattle.settings.specs.Answers.{fine}
+use Rattle.settings.specs.Limits.{longestFactor}
+use Rattle.settings.specs.Coefficients.{coefficients-check}
 use Rattle.packed.specs.Products.{factorChecks, Multiplies}
 use Rattle.packed.specs.ProductLaws.{product-fine}
-use Rattle.packed.specs.declared.answers.Wrote.{Wrote}
+use Rattle.settings.specs.declared.answers.Wrote.{Wrote}
 use Rattle.labels.specs.Labels.{modulus, mostChecks}
 use Rattle.labels.specs.SettingLaws.{labelSetting, label-setting-fine}
 

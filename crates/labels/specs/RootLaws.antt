@@ -29,13 +29,14 @@ use Rattle.divisions.specs.CongruenceLaws.{weights-congruent}
 use Rattle.divisions.specs.ValueLaws.{packed-sum-of}
 use Rattle.divisions.specs.Powers.{allPowers}
 use Rattle.divisions.specs.PowerLaws.{powers-at, power-again}
-use Rattle.packed.specs.Answers.{refuses}
-use Rattle.packed.specs.Coefficients.{taken-below}
-use Rattle.packed.specs.Feeding.{Feeding}
-use Rattle.packed.specs.Running.{takenSays, freshSum, recordOf, Freshens, Feeds, Closes}
+use Rattle.settings.specs.Answers.{refuses}
+use Rattle.packed.specs.Taken.{taken-below}
+use Rattle.packed.specs.FedPairs.{PairsToFeed}
+use Rattle.packed.specs.Running.{countedSays, freshSum, recordOf, Freshens, Feeds, Closes}
 use Rattle.packed.specs.RunningChecks.{pairs-pass, feed-fine}
 use Rattle.packed.specs.Calls.{Call}
-use Rattle.packed.specs.DemandThree.{fresh-coherent, demand-3}
+use Rattle.packed.specs.DemandThree.{demand-3}
+use Rattle.packed.specs.Joining.{fresh-coherent}
 use Rattle.packed.specs.declared.running.Begun.{Begun}
 use Rattle.packed.specs.declared.running.Fed.{Fed}
 use Rattle.packed.specs.declared.running.Closed.{Closed}
@@ -120,7 +121,7 @@ module _ (a : List ℕ) (j : ℕ) where
       (weights-congruent modulus (length a) (coefficient powers) (λ i. root j ^ i) (coefficient a) powers-residue)
 
   module _ (polynomial : Polynomial a) where
-    feeding : Feeding labelSetting freshSum a powers
+    feeding : PairsToFeed labelSetting freshSum a powers
     feeding = record {
       coherent = fresh-coherent labelSetting label-setting-fine;
       same-size = sym (length-upto (length a) (powerAt j));
@@ -136,7 +137,7 @@ module _ (a : List ℕ) (j : ℕ) where
         let start = recordOf labelSetting freshSum in
         let fits : Feeds (begun .running) a powers fed = rw lent at feeds in
         let said = rw (fresh .1, feed-fine start a powers (pairs-pass start a powers feeding)) at (fits .0) in
-        let took : refuses (takenSays (fed .answer)) ≡ false = rw said in
+        let took : refuses (countedSays (fed .answer)) ≡ false = rw said in
         let call : Call = record { left = a; right = powers; gave = fed } in
         let all = demand-3 labelSetting label-setting-fine begun fresh (call ∷ []) (fed .running) (fits, took, refl) in
         let left = all .closing (0 ∷ []) after closed closes .1 in

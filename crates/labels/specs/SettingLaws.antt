@@ -2,9 +2,9 @@
 --     labelSetting        src/setting.rt: one coefficient to a word, and a batch that no label passes
 --     label-setting-fine  none of the checks of a setting refuses it
 use mathlib.Core.Path.{_≡_, refl}
-use Rattle.packed.specs.Answers.{fine}
-use Rattle.packed.specs.Settings.{settingChecks}
-use Rattle.packed.specs.declared.setting.Setting.{Setting}
+use Rattle.settings.specs.Answers.{fine}
+use Rattle.settings.specs.Settings.{settingChecks}
+use Rattle.settings.specs.declared.setting.Setting.{Setting}
 
 abbrev pub labelSetting : Setting
 labelSetting = record { p = 929; k = 1; t = 30; n = 928 }

@@ -14,9 +14,9 @@ use lib.Seq.{take-append-seam}
 use Rattle.polynomials.specs.Lists.{coefficient, Below}
 use Rattle.divisions.specs.Differences.{differences, exchanged}
 use Rattle.divisions.specs.DifferenceLaws.{differences-set, differences-exchanged, below-set, set-other, exchanged-other}
-use Rattle.packed.specs.Answers.{answered, fine}
-use Rattle.packed.specs.AnswerLaws.{passed-first, wrote-left}
-use Rattle.packed.specs.declared.answers.Wrote.the-variants.{Count}
+use Rattle.settings.specs.Answers.{answered, fine}
+use Rattle.settings.specs.AnswerLaws.{passed-first, wrote-left}
+use Rattle.settings.specs.declared.answers.Wrote.the-variants.{Count}
 use Rattle.labels.specs.declared.Passing.{Passing}
 use Rattle.labels.specs.declared.Passing.the-variants.{Passes, Fails}
 use Rattle.labels.specs.Labels.{modulus, checkCount, label, writeChecks, readChecks, passes, WritesLabel, ChecksLabel, check-once}

@@ -1,16 +1,16 @@
 // The checks of a label, in their order.
 ghost use mathlib.Core.Path.{_≡_};
 ghost use Prim.Native.Nat.{_≤_};
-ghost use Rattle.packed.specs.Settings.{checkedSays};
-ghost use Rattle.packed.specs.Coefficients.{coefficientCheck};
+ghost use Rattle.settings.specs.Settings.{checkedSays};
+ghost use Rattle.settings.specs.Coefficients.{coefficientCheck};
 ghost use Rattle.labels.specs.Labels.{modulus, highestLevel, checkCount, writeChecks, readChecks};
 use crate::limits::HIGHEST_LEVEL;
 use crate::limits::MODULUS;
 use crate::limits::MOST_WORDS;
 use crate::refusals;
-use packed::coefficients::check_coefficients;
-use packed::refusals::SHORT;
-use packed::setting::Checked;
+use settings::coefficients::check_coefficients;
+use settings::refusals::SHORT;
+use settings::setting::Checked;
 
 // 2^(s+1), for level s.
 pub fn check_count(level: u64) -> usize
@@ -44,7 +44,7 @@ pub fn check_data(level: u64, content: &[u16], len: usize) -> Checked
 }
 
 // Of the words of a label: 19, 20, 21, 8.
-pub fn check_words(level: u64, words: &[u16]) -> Checked
+pub fn check_label(level: u64, words: &[u16]) -> Checked
     ensures { λ r. ⌜ checkedSays r ≡ readChecks level (now (words .entry)) ⌝ }
 {
     if HIGHEST_LEVEL < level {

@@ -1,4 +1,4 @@
-// Check words for stacked labels (PDF417): words modulo 929, written at a level and checked. Built on the promises of `packed`.
+// Check words for stacked labels (PDF417): words modulo 929, written at a level and checked. Built on the promises of the library.
 ghost use Rattle.labels.specs.Labels.{WritesLabel, ChecksLabel};
 
 mod checks;
@@ -13,15 +13,15 @@ mod words;
 
 use crate::checks::check_count;
 use crate::checks::check_data;
-use crate::checks::check_words;
+use crate::checks::check_label;
 use crate::division::write_checks;
 use crate::limits::MOST_WORDS;
 use crate::roots::vanishes;
 use crate::words::copy;
 use crate::words::turn;
-use packed::answers::Wrote;
-use packed::refusals::Refusal;
-use packed::setting::Checked;
+use settings::answers::Wrote;
+use settings::refusals::Refusal;
+use settings::setting::Checked;
 
 // Whether a label passes: an answer, not a refusal.
 pub enum Passing {
@@ -48,7 +48,7 @@ pub fn write(level: u64, content: &[u16], out: &mut [u16]) -> Wrote
 pub fn check(level: u64, words: &[u16]) -> Passing
     ensures { λ r. ⌜ ChecksLabel level (now (words .entry)) r ⌝ }
 {
-    if let Checked::Refused(r) = check_words(level, words) {
+    if let Checked::Refused(r) = check_label(level, words) {
         return Passing::Refused(r);
     }
     let n = words.len();

@@ -1,5 +1,5 @@
 // The refusals that labels add to document 01's, each with its number and the place 0.
-use packed::refusals::Refusal;
+use settings::refusals::Refusal;
 
 pub const LEVEL: Refusal = Refusal {
     number: 19,

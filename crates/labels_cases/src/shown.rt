@@ -3,7 +3,7 @@ ghost use mathlib.Core.Path.{_≡_};
 ghost use Prim.Native.Nat.{_≤_, min};
 ghost use lib.ListN.{length};
 use labels::Passing;
-use packed::answers::Wrote;
+use settings::answers::Wrote;
 
 // A line for the label of the data words, into a list of sevens; answers how many words it has, and 0 where it was refused.
 pub fn show_write(level: u64, content: &[u16], out: &mut [u16]) -> usize

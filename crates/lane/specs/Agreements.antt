@@ -10,28 +10,28 @@ use Prim.Native.Nat.{ℕ, _%_, _^_, _<_, _≤_}
 use mathlib.Core.Path.{_≡_, sym, ap, _∙_}
 use mathlib.Core.Bool.{false, not}
 use mathlib.Core.List.{List}
-use mathlib.Mathlib.Data.Bool.Basic.{or-eq-false-eq-eq-false-and-eq-false}
 use native.Mathlib.Omega.{arith}
 use lib.Dec.{leb}
 use lib.Pow.{pow-pos}
 use lib.Ieee.{Float}
 use borrow.Author.Tests.{lt-leb, leb-false}
+use Rattle.polynomials.specs.Tests.{neither}
 use Rattle.polynomials.specs.Lists.{coefficient, sumOfProducts}
 use Rattle.polynomials.specs.Places.{packed, field}
 use Rattle.polynomials.specs.ReductionLaws.{reduced-most, field-reduced}
-use Rattle.doubles.specs.Whole.{double, number, isWhole, Held}
+use Rattle.doubles.specs.Whole.{double, wholePart, isWhole, Held}
 use Rattle.doubles.specs.Exactly.{held, held-number, held-whole}
-use Rattle.packed.specs.Answers.{answered, fine, refuse}
-use Rattle.packed.specs.AnswerLaws.{passed, passed-first, passed-last}
-use Rattle.packed.specs.SharedAnswers.{packed-once}
-use Rattle.packed.specs.Settings.{settingChecks, base, places, spanOf}
+use Rattle.settings.specs.Answers.{answered, fine, refuse}
+use Rattle.settings.specs.AnswerLaws.{passed, passed-first, passed-last}
+use Rattle.settings.specs.SharedAnswers.{packed-once}
+use Rattle.settings.specs.Settings.{settingChecks, base, places, spanOf}
 use Rattle.packed.specs.Places.{wordChecks, reducedWord, reduceAnswer, Reduces}
 use Rattle.packed.specs.Running.{fedPairs}
-use Rattle.packed.specs.DemandThree.{batch-fields}
-use Rattle.packed.specs.declared.setting.Setting.{Setting}
-use Rattle.packed.specs.declared.answers.Packed.{Packed}
-use Rattle.packed.specs.declared.answers.Packed.the-variants as inPacked
-use Rattle.lane.specs.Lanes.{laneCause, makeChecks, heldCause, improperCause, sumChecks, sumWord, reduceChecks, LaneSums, LaneReduces}
+use Rattle.packed.specs.SumOfPairs.{batch-fields}
+use Rattle.settings.specs.declared.setting.Setting.{Setting}
+use Rattle.settings.specs.declared.answers.Packed.{Packed}
+use Rattle.settings.specs.declared.answers.Packed.the-variants as inPacked
+use Rattle.lane.specs.Lanes.{laneCause, makeChecks, heldCause, improperCause, laneSumChecks, sumWord, reduceChecks, LaneSums, LaneReduces}
 use Rattle.lane.specs.LaneLaws.{held-checked, held-within, word-small}
 use Rattle.lane.specs.SumLaws.{Listed, listed, listed-operands, listed-few, word-fits, sum-small}
 use Rattle.lane.specs.declared.Lane.{Lane}
@@ -45,17 +45,17 @@ accepted l e = passed-first (settingChecks (l .setting)) (refuse (laneCause (l .
 
 pub record SumAnswer (s : Setting) (xs ys : List ℕ) (x : Float) : Type 0 where
   pub word : Held x (packed (base s) (sumOfProducts (fedPairs s xs ys)))
-  pub fields : (j : ℕ) → field (base s) (number x) j ≡ coefficient (sumOfProducts (fedPairs s xs ys)) j
+  pub fields : (j : ℕ) → field (base s) (wholePart x) j ≡ coefficient (sumOfProducts (fedPairs s xs ys)) j
 
 module _ (l : Lane) (xs ys : List ℕ) (x : Float) (promise : LaneSums l xs ys (inLane.Word x)) where
-  sum-told : (sumChecks l xs ys ≡ fine) × (answered (double (sumWord (l .setting) xs ys)) ≡ answered x)
-  sum-told = passed-first (sumChecks l xs ys) (answered (double (sumWord (l .setting) xs ys))) x (sym promise)
+  sum-told : (laneSumChecks l xs ys ≡ fine) × (answered (double (sumWord (l .setting) xs ys)) ≡ answered x)
+  sum-told = passed-first (laneSumChecks l xs ys) (answered (double (sumWord (l .setting) xs ys))) x (sym promise)
 
   lists : Listed (l .setting) xs ys
   lists = listed l xs ys (sum-told .0)
 
   made : heldCause l ≡ false
-  unfolding sumChecks
+  unfolding laneSumChecks
   made = passed (heldCause l) 12 0 _ tt (sum-told .0) .0
 
   holds : Held x (sumWord (l .setting) xs ys)
@@ -79,8 +79,8 @@ module _ (l : Lane) (x y : Float) (promise : LaneReduces l x (inLane.Word y)) wh
   abbrev s : Setting
   s = l .setting
 
-  reduce-told : (reduceChecks l x ≡ fine) × (answered (double (reducedWord s (number x))) ≡ answered y)
-  reduce-told = passed-first (reduceChecks l x) (answered (double (reducedWord s (number x)))) y (sym promise)
+  reduce-told : (reduceChecks l x ≡ fine) × (answered (double (reducedWord s (wholePart x))) ≡ answered y)
+  reduce-told = passed-first (reduceChecks l x) (answered (double (reducedWord s (wholePart x)))) y (sym promise)
 
   checked : (heldCause l ≡ false) × (improperCause s x ≡ false)
   unfolding reduceChecks
@@ -88,28 +88,28 @@ module _ (l : Lane) (x y : Float) (promise : LaneReduces l x (inLane.Word y)) wh
       let a = passed (heldCause l) 12 0 (refuse (improperCause s x) 11 0) tt (reduce-told .0) in
       (a .0, passed-last (improperCause s x) 11 0 (a .1))
 
-  below : number x < 2 ^ spanOf s
-  below = leb-false (2 ^ spanOf s) (number x) (or-eq-false-eq-eq-false-and-eq-false (not (isWhole x)) (leb (2 ^ spanOf s) (number x)) .0 (checked .1) .1)
+  below : wholePart x < 2 ^ spanOf s
+  below = leb-false (2 ^ spanOf s) (wholePart x) (neither (not (isWhole x)) (leb (2 ^ spanOf s) (wholePart x)) (checked .1) .1)
 
-  short : reducedWord s (number x) ≤ number x
-  short = reduced-most (s .p) (base s) (places s) (number x) (pow-pos (s .t))
+  short : reducedWord s (wholePart x) ≤ wholePart x
+  short = reduced-most (s .p) (base s) (places s) (wholePart x) (pow-pos (s .t))
 
-  pub reduced-holds : Held y (reducedWord s (number x))
+  pub reduced-holds : Held y (reducedWord s (wholePart x))
   reduced-holds =
-      let is : double (reducedWord s (number x)) ≡ y = let e = reduce-told .1 in cc in
-      rw is at (held (reducedWord s (number x)) (omega (arith, short, word-small (held-within l (checked .0)) (number x) below)))
+      let is : double (reducedWord s (wholePart x)) ≡ y = let e = reduce-told .1 in cc in
+      rw is at (held (reducedWord s (wholePart x)) (omega (arith, short, word-small (held-within l (checked .0)) (wholePart x) below)))
 
-  pub reduce-agrees : (r : Packed) → Reduces s (number x) r → r ≡ inPacked.Word (number y)
+  pub reduce-agrees : (r : Packed) → Reduces s (wholePart x) r → r ≡ inPacked.Word (wholePart y)
   unfolding reduceAnswer wordChecks
   reduce-agrees r h =
-      packed-once r (inPacked.Word (number y)) (reduceAnswer s (number x)) h
-      (rw (accepted l (checked .0), lt-leb (2 ^ spanOf s) (number x) below) (ap (λ (n : ℕ). answered n) (held-number reduced-holds)))
+      packed-once r (inPacked.Word (wholePart y)) (reduceAnswer s (wholePart x)) h
+      (rw (accepted l (checked .0), lt-leb (2 ^ spanOf s) (wholePart x) below) (ap (λ (n : ℕ). answered n) (held-number reduced-holds)))
 
-  pub reduce-fields : (j : ℕ) → j < places s → field (base s) (number y) j ≡ field (base s) (number x) j % s .p
-  reduce-fields j h = rw (held-number reduced-holds) (field-reduced (s .p) (base s) (places s) (number x) j (pow-pos (s .t)) h)
+  pub reduce-fields : (j : ℕ) → j < places s → field (base s) (wholePart y) j ≡ field (base s) (wholePart x) j % s .p
+  reduce-fields j h = rw (held-number reduced-holds) (field-reduced (s .p) (base s) (places s) (wholePart x) j (pow-pos (s .t)) h)
 
 -- ---- both
 
 pub sum-reduced : (l : Lane) (xs ys : List ℕ) (x y : Float) → LaneSums l xs ys (inLane.Word x) → LaneReduces l x (inLane.Word y)
-    → (j : ℕ) → j < places (l .setting) → field (base (l .setting)) (number y) j ≡ coefficient (sumOfProducts (fedPairs (l .setting) xs ys)) j % l .setting .p
+    → (j : ℕ) → j < places (l .setting) → field (base (l .setting)) (wholePart y) j ≡ coefficient (sumOfProducts (fedPairs (l .setting) xs ys)) j % l .setting .p
 sum-reduced l xs ys x y a b j h = reduce-fields l x y b j h ∙ ap (λ (n : ℕ). n % l .setting .p) (sum-schoolbook l xs ys x a .fields j)

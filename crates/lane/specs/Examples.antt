@@ -5,10 +5,10 @@ use Prim.Native.Nat.{ℕ, _/_}
 use mathlib.Core.Path.{_≡_, refl}
 use Rattle.doubles.specs.Whole.{cutProduct}
 use Rattle.doubles.specs.Quotients.{falls-short}
-use Rattle.packed.specs.Answers.{fine, refused}
-use Rattle.packed.specs.Settings.{settingChecks}
+use Rattle.settings.specs.Answers.{fine, refused}
+use Rattle.settings.specs.Settings.{settingChecks}
 use Rattle.packed.specs.Places.{reducedWord}
-use Rattle.packed.specs.declared.setting.Setting.{Setting}
+use Rattle.settings.specs.declared.setting.Setting.{Setting}
 use Rattle.lane.specs.Lanes.{makeChecks}
 
 abbrev setting : ℕ → ℕ → ℕ → ℕ → Setting

@@ -4,19 +4,18 @@
 --     modulus-small, width-small, base-small
 --                           p and q are below 2^53
 --     word-small            a word of such a setting is below 2^52
---     Working l             a record as make makes it, of a setting with these bounds
+--     ProperLane l          a record as make makes it, of a setting with these bounds
 --     held-modulus, held-base, held-inverse
 --                           its doubles
 --     held-checked, held-within
 --                           the setting of a record that is not 12
 --     Doubles l             its fields are doubles, which every record's are
 --     held-is               12 is given exactly where the record is not what make would make of its setting
---     working               so a record that is not 12 is one as make makes it
+--     lane-proper           so a record that is not 12 is one as make makes it
 use Prim.Native.Nat.{ℕ, _*_, _-_, _^_, _≤_, _<_}
 use mathlib.Core.Path.{_≡_, ap, _∙_}
 use mathlib.Core.Bool.{false}
 use mathlib.Core.Logic.{_↔_}
-use mathlib.Mathlib.Data.Bool.Basic.{or-eq-false-eq-eq-false-and-eq-false}
 use native.Mathlib.Nat.{lt-of-lt-of-le, le-mul-of-pos-right, mul-comm}
 use native.Mathlib.Omega.{arith}
 use lib.Dec.{T}
@@ -25,13 +24,14 @@ use lib.Pow.{pow-lt, pow-mono}
 use lib.Ieee.{Float, binary64, fits}
 use lib.Ieee.Fits.{ofInt-fits, div-fits}
 use borrow.Author.Tests.{leb-false}
-use Rattle.doubles.specs.Whole.{exactBelow, double, Held, inverse, quotientBelow, differs}
+use Rattle.polynomials.specs.Tests.{neither}
+use Rattle.doubles.specs.Whole.{exactBelow, double, Held, inverse, quotientBelow, differsInBits}
 use Rattle.doubles.specs.Bits.{double-number, inverse-number, same-bits, no-difference}
-use Rattle.packed.specs.Answers.{fine, refuse, refuses}
-use Rattle.packed.specs.AnswerLaws.{passed-first, passed-last, refuses-none}
-use Rattle.packed.specs.Settings.{settingChecks, base, spanOf}
-use Rattle.packed.specs.Bounds.{Bounds, bounds}
-use Rattle.packed.specs.declared.setting.Setting.{Setting}
+use Rattle.settings.specs.Answers.{fine, refuse, refuses}
+use Rattle.settings.specs.AnswerLaws.{passed-first, passed-last, refuses-none}
+use Rattle.settings.specs.Settings.{settingChecks, base, spanOf}
+use Rattle.settings.specs.Bounds.{Bounds, bounds}
+use Rattle.settings.specs.declared.setting.Setting.{Setting}
 use Rattle.lane.specs.Lanes.{laneBits, laneCause, makeChecks, laneOf, otherDoubles, heldCause}
 use Rattle.lane.specs.declared.Lane.{Lane}
 
@@ -60,11 +60,11 @@ module _ {s : Setting} (b : LaneBounds s) where
   pub word-small : (w : ℕ) → w < 2 ^ spanOf s → w < quotientBelow
   word-small w h = lt-of-lt-of-le h (pow-mono {j = 52} (omega (arith, b .short)))
 
-pub record Working (l : Lane) : Type 0 where
+pub record ProperLane (l : Lane) : Type 0 where
   pub within : LaneBounds (l .setting)
   pub made : l ≡ laneOf (l .setting)
 
-module _ {l : Lane} (h : Working l) where
+module _ {l : Lane} (h : ProperLane l) where
   pub held-modulus : Held (l .p) (l .setting .p)
   held-modulus = record { is = ap (λ (m : Lane). m .p) (h .made); below = modulus-small (h .within) }
 
@@ -78,7 +78,7 @@ module _ {l : Lane} (h : Working l) where
 
 pub held-checked : (l : Lane) → heldCause l ≡ false → makeChecks (l .setting) ≡ fine
 unfolding heldCause
-held-checked l e = refuses-none (makeChecks (l .setting)) .0 (or-eq-false-eq-eq-false-and-eq-false (refuses (makeChecks (l .setting))) (otherDoubles l) .0 e .0)
+held-checked l e = refuses-none (makeChecks (l .setting)) .0 (neither (refuses (makeChecks (l .setting))) (otherDoubles l) e .0)
 
 pub held-within : (l : Lane) → heldCause l ≡ false → LaneBounds (l .setting)
 held-within l e = lane-bounds (l .setting) (held-checked l e)
@@ -94,8 +94,8 @@ module _ (l : Lane) (ds : Doubles l) where
 
   same : otherDoubles l ≡ false → l ≡ laneOf s
   same e =
-      let a = or-eq-false-eq-eq-false-and-eq-false (differs (l .p) (double (s .p))) _ .0 e in
-      let b = or-eq-false-eq-eq-false-and-eq-false (differs (l .q) (double (base s))) (differs (l .inverse) (inverse (s .p))) .0 (a .1) in
+      let a = neither (differsInBits (l .p) (double (s .p))) _ e in
+      let b = neither (differsInBits (l .q) (double (base s))) (differsInBits (l .inverse) (inverse (s .p))) (a .1) in
       let p : l .p ≡ double (s .p) = same-bits (l .p) (double (s .p)) (ds .modulus) (ofInt-fits binary64 (pos (s .p))) (a .0) in
       let q : l .q ≡ double (base s) = same-bits (l .q) (double (base s)) (ds .base) (ofInt-fits binary64 (pos (base s))) (b .0) in
       let i : l .inverse ≡ inverse (s .p) = same-bits (l .inverse) (inverse (s .p)) (ds .inverse) (div-fits binary64 (double 1) (double (s .p))) (b .1) in
@@ -107,16 +107,16 @@ module _ (l : Lane) (ds : Doubles l) where
   pub held-is : (heldCause l ≡ false) ↔ ((makeChecks s ≡ fine) × (l ≡ laneOf s))
   unfolding heldCause
   held-is = (
-    λ e. (held-checked l e, same (or-eq-false-eq-eq-false-and-eq-false (refuses (makeChecks s)) (otherDoubles l) .0 e .1)),
+    λ e. (held-checked l e, same (neither (refuses (makeChecks s)) (otherDoubles l) e .1)),
     λ h. rw (refuses-none (makeChecks s) .1 (h .0)) (other-none (lane-bounds s (h .0)) (h .1)),
   )
     where
       other-none : LaneBounds s → l ≡ laneOf s → otherDoubles l ≡ false
       other-none b e =
-          let p : differs (l .p) (double (s .p)) ≡ false = rw (ap (λ (m : Lane). m .p) e) (no-difference (double (s .p)) (double-number (s .p) (modulus-small b))) in
-          let q : differs (l .q) (double (base s)) ≡ false = rw (ap (λ (m : Lane). m .q) e) (no-difference (double (base s)) (double-number (base s) (base-small b))) in
-          let i : differs (l .inverse) (inverse (s .p)) ≡ false = rw (ap (λ (m : Lane). m .inverse) e) (no-difference (inverse (s .p)) (inverse-number (s .p) (omega (arith, b .bounded .range .choice .p-low)) (b .bounded .range .choice .p-high))) in
+          let p : differsInBits (l .p) (double (s .p)) ≡ false = rw (ap (λ (m : Lane). m .p) e) (no-difference (double (s .p)) (double-number (s .p) (modulus-small b))) in
+          let q : differsInBits (l .q) (double (base s)) ≡ false = rw (ap (λ (m : Lane). m .q) e) (no-difference (double (base s)) (double-number (base s) (base-small b))) in
+          let i : differsInBits (l .inverse) (inverse (s .p)) ≡ false = rw (ap (λ (m : Lane). m .inverse) e) (no-difference (inverse (s .p)) (inverse-number (s .p) (omega (arith, b .bounded .range .choice .p-low)) (b .bounded .range .choice .p-high))) in
           rw (p, q, i)
 
-  pub working : heldCause l ≡ false → Working l
-  working e = let h = held-is .0 e in record { within = lane-bounds s (h .0); made = h .1 }
+  pub lane-proper : heldCause l ≡ false → ProperLane l
+  lane-proper e = let h = held-is .0 e in record { within = lane-bounds s (h .0); made = h .1 }

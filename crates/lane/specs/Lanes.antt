@@ -4,8 +4,8 @@
 --     laneOf s                     the record that make makes: p and q, and what the division 1.0 / p gives
 --     otherDoubles l               one of a record's doubles differs in any bit from what make would hold
 --     heldCause l                  12 Record: a record whose setting is refused or meets 16, or whose doubles are others
---     fullCause n pairs            13 Full: more than n pairs
---     sumChecks l xs ys            12, 9, 13, 8
+--     laneFullCause n pairs        13 Full: more than n pairs
+--     laneSumChecks l xs ys        12, 9, 13, 8
 --     sumWord s xs ys              the sum of products: the word of the schoolbook sums, unreduced
 --     improperCause s x            11 Word: x is no whole number from 0 to 2^((2k-1)t) - 1
 --     reduceChecks l x             12, 11
@@ -23,14 +23,14 @@ use lib.ListN.{length}
 use lib.Ieee.{Float}
 use Rattle.polynomials.specs.Lists.{sumOfProducts}
 use Rattle.polynomials.specs.Places.{packed}
-use Rattle.doubles.specs.Whole.{double, number, isWhole, inverse, differs}
-use Rattle.packed.specs.Answers.{Answer, answered, refused, Verdict, refuse, refuses, _andThen_}
-use Rattle.packed.specs.AnswerLaws.{once}
-use Rattle.packed.specs.Settings.{settingChecks, base, spanOf}
-use Rattle.packed.specs.Coefficients.{coefficientsCheck}
+use Rattle.doubles.specs.Whole.{double, wholePart, isWhole, inverse, differsInBits}
+use Rattle.settings.specs.Answers.{Answer, answered, refused, Verdict, refuse, refuses, _andThen_}
+use Rattle.settings.specs.AnswerLaws.{once}
+use Rattle.settings.specs.Settings.{settingChecks, base, spanOf}
+use Rattle.settings.specs.Coefficients.{coefficientsCheck}
 use Rattle.packed.specs.Places.{reducedWord}
 use Rattle.packed.specs.Running.{fedPairs, pairsCause}
-use Rattle.packed.specs.declared.setting.Setting.{Setting}
+use Rattle.settings.specs.declared.setting.Setting.{Setting}
 use Rattle.lane.specs.declared.Lane.{Lane}
 use Rattle.lane.specs.declared.Made.{Made}
 use Rattle.lane.specs.declared.Made.the-variants as inMade
@@ -74,24 +74,24 @@ make-once s a b = once madeSays madeOf made-back a b (makeChecks s andThen answe
 abbrev pub otherDoubles : Lane → Bool
 otherDoubles l =
     let made : Lane = laneOf (l .setting) in
-    differs (l .p) (made .p) || (differs (l .q) (made .q) || differs (l .inverse) (made .inverse))
+    differsInBits (l .p) (made .p) || (differsInBits (l .q) (made .q) || differsInBits (l .inverse) (made .inverse))
 
 unfoldable pub heldCause : Lane → Bool
 heldCause l = refuses (makeChecks (l .setting)) || otherDoubles l
 
-abbrev pub fullCause : ℕ → ℕ → Bool
-fullCause n pairs = ltb n pairs
+abbrev pub laneFullCause : ℕ → ℕ → Bool
+laneFullCause n pairs = ltb n pairs
 
 abbrev pub improperCause : Setting → Float → Bool
-improperCause s x = not (isWhole x) || leb (2 ^ spanOf s) (number x)
+improperCause s x = not (isWhole x) || leb (2 ^ spanOf s) (wholePart x)
 
 -- ---- sum
 
-unfoldable pub sumChecks : Lane → List ℕ → List ℕ → Verdict
-sumChecks l xs ys =
+unfoldable pub laneSumChecks : Lane → List ℕ → List ℕ → Verdict
+laneSumChecks l xs ys =
     refuse (heldCause l) 12 0
     andThen refuse (pairsCause (l .setting .k) (length xs) (length ys)) 9 0
-    andThen refuse (fullCause (l .setting .n) (length xs / l .setting .k)) 13 0
+    andThen refuse (laneFullCause (l .setting .n) (length xs / l .setting .k)) 13 0
     andThen coefficientsCheck (l .setting .p) xs ys
 
 abbrev pub sumWord : Setting → List ℕ → List ℕ → ℕ
@@ -110,10 +110,10 @@ lane-back (inLane.Word x) = refl
 lane-back (inLane.Refused r) = refl
 
 abbrev pub LaneSums : Lane → List ℕ → List ℕ → LaneAnswer → Type 0
-LaneSums l xs ys r = laneSays r ≡ (sumChecks l xs ys andThen answered (double (sumWord (l .setting) xs ys)))
+LaneSums l xs ys r = laneSays r ≡ (laneSumChecks l xs ys andThen answered (double (sumWord (l .setting) xs ys)))
 
 pub sum-once : (l : Lane) (xs ys : List ℕ) (a b : LaneAnswer) → LaneSums l xs ys a → LaneSums l xs ys b → a ≡ b
-sum-once l xs ys a b = once laneSays laneAnswerOf lane-back a b (sumChecks l xs ys andThen answered (double (sumWord (l .setting) xs ys)))
+sum-once l xs ys a b = once laneSays laneAnswerOf lane-back a b (laneSumChecks l xs ys andThen answered (double (sumWord (l .setting) xs ys)))
 
 -- ---- reduce
 
@@ -121,7 +121,7 @@ unfoldable pub reduceChecks : Lane → Float → Verdict
 reduceChecks l x = refuse (heldCause l) 12 0 andThen refuse (improperCause (l .setting) x) 11 0
 
 abbrev pub LaneReduces : Lane → Float → LaneAnswer → Type 0
-LaneReduces l x r = laneSays r ≡ (reduceChecks l x andThen answered (double (reducedWord (l .setting) (number x))))
+LaneReduces l x r = laneSays r ≡ (reduceChecks l x andThen answered (double (reducedWord (l .setting) (wholePart x))))
 
 pub reduce-once : (l : Lane) (x : Float) (a b : LaneAnswer) → LaneReduces l x a → LaneReduces l x b → a ≡ b
-reduce-once l x a b = once laneSays laneAnswerOf lane-back a b (reduceChecks l x andThen answered (double (reducedWord (l .setting) (number x))))
+reduce-once l x a b = once laneSays laneAnswerOf lane-back a b (reduceChecks l x andThen answered (double (reducedWord (l .setting) (wholePart x))))

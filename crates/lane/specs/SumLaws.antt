@@ -30,21 +30,21 @@ use Rattle.polynomials.specs.Places.{packed, sumOfWords}
 use Rattle.polynomials.specs.PlaceLaws.{packed-sumOfProducts}
 use Rattle.polynomials.specs.Blocks.{block, blockAt, pairsUpto}
 use Rattle.polynomials.specs.BlockLaws.{block-operand, words-of-pairs}
-use Rattle.doubles.specs.Whole.{exactBelow, number, Held, Exact, quotientBelow}
+use Rattle.doubles.specs.Whole.{exactBelow, wholePart, Held, Exact, quotientBelow}
 use Rattle.doubles.specs.Exactly.{held, held-number, held-exact, zero-is}
-use Rattle.packed.specs.Answers.{fine}
-use Rattle.packed.specs.AnswerLaws.{passed}
-use Rattle.packed.specs.Settings.{base, spanOf}
-use Rattle.packed.specs.Coefficients.{taken, takenOne, taken-length, taken-low, coefficients-check}
-use Rattle.packed.specs.Bounds.{Bounds, batch-within}
+use Rattle.settings.specs.Answers.{fine}
+use Rattle.settings.specs.AnswerLaws.{passed}
+use Rattle.settings.specs.Settings.{base, spanOf}
+use Rattle.settings.specs.Coefficients.{coefficients-check}
+use Rattle.packed.specs.Taken.{taken, takenOne, taken-length, taken-low, taken-block, taken-turn, taken-most}
+use Rattle.settings.specs.Bounds.{Bounds, batch-within}
 use Rattle.packed.specs.Running.{fedPairs, pairsCause}
-use Rattle.packed.specs.BatchLaws.{taken-block, taken-turn, taken-most}
 use Rattle.packed.specs.RunningChecks.{pairs-shape}
-use Rattle.packed.specs.FeedLaws.{fed-operands, fed-count}
+use Rattle.packed.specs.FedPairs.{fed-operands, fed-count}
 use Rattle.packed.specs.WordLaws.{within-span}
-use Rattle.packed.specs.declared.setting.Setting.{Setting}
-use Rattle.lane.specs.Lanes.{heldCause, fullCause, sumChecks, sumWord}
-use Rattle.lane.specs.LaneLaws.{LaneBounds, Doubles, Working, working, held-within, held-base, word-small}
+use Rattle.settings.specs.declared.setting.Setting.{Setting}
+use Rattle.lane.specs.Lanes.{heldCause, laneFullCause, laneSumChecks, sumWord}
+use Rattle.lane.specs.LaneLaws.{LaneBounds, Doubles, ProperLane, lane-proper, held-within, held-base, word-small}
 use Rattle.lane.specs.ExactLaws.{plus-asks, plus-gives, times-asks, times-gives}
 use Rattle.lane.specs.declared.Lane.{Lane}
 
@@ -53,28 +53,28 @@ use Rattle.lane.specs.declared.Lane.{Lane}
 pub record Packing (p : ℕ) (q : Float) (xs : List ℕ) : Type 0 where
   pub p-low : 0 < p
   pub base-exact : Exact q
-  pub base-low : 0 < number q
-  pub room : packed (number q) (taken p xs) < exactBelow
+  pub base-low : 0 < wholePart q
+  pub room : packed (wholePart q) (taken p xs) < exactBelow
 
 pub packed-none : (p q : ℕ) (xs : List ℕ) → Held (ofBits binary64 0) (packed q (drop (length xs) (taken p xs)))
 packed-none p q xs = rw (zero-is, drop-of-length-le (taken p xs) {i = length xs} (rw taken-length (omega arith))) (held 0 (omega arith))
 
-module _ {p : ℕ} {q : Float} {xs : List ℕ} (pre : Packing p q xs) {w : Float} {i : ℕ} (more : 0 < i) (top : i ≤ length xs) (h : Held w (packed (number q) (drop i (taken p xs)))) where
+module _ {p : ℕ} {q : Float} {xs : List ℕ} (pre : Packing p q xs) {w : Float} {i : ℕ} (more : 0 < i) (top : i ≤ length xs) (h : Held w (packed (wholePart q) (drop i (taken p xs)))) where
   -- the word from one place below, which is at most the whole
-  next : packed (number q) (drop i (taken p xs)) * number q + takenOne p (coefficient xs (i - 1)) ≡ packed (number q) (drop (i - 1) (taken p xs))
-  next = taken-turn (number q) p xs i _ more top refl
+  next : packed (wholePart q) (drop i (taken p xs)) * wholePart q + takenOne p (coefficient xs (i - 1)) ≡ packed (wholePart q) (drop (i - 1) (taken p xs))
+  next = taken-turn (wholePart q) p xs i _ more top refl
 
-  below : packed (number q) (drop i (taken p xs)) * number q + takenOne p (coefficient xs (i - 1)) < exactBelow
-  below = lt-of-le-of-lt (taken-most (number q) p xs i _ (pre .base-low) more top refl) (pre .room)
+  below : packed (wholePart q) (drop i (taken p xs)) * wholePart q + takenOne p (coefficient xs (i - 1)) < exactBelow
+  below = lt-of-le-of-lt (taken-most (wholePart q) p xs i _ (pre .base-low) more top refl) (pre .room)
 
-  pub pack-times : Exact w × Exact q × (number w * number q < exactBelow)
+  pub pack-times : Exact w × Exact q × (wholePart w * wholePart q < exactBelow)
   pack-times = times-asks h (pre .base-exact) (omega (arith, below))
 
-  module _ {v y : Float} (hv : Held v (number w * number q)) (hy : Held y (takenOne p (coefficient xs (i - 1)))) where
-    pub pack-plus : Exact v × Exact y × (number v + number y < exactBelow)
+  module _ {v y : Float} (hv : Held v (wholePart w * wholePart q)) (hy : Held y (takenOne p (coefficient xs (i - 1)))) where
+    pub pack-plus : Exact v × Exact y × (wholePart v + wholePart y < exactBelow)
     pack-plus = plus-asks (times-gives h (pre .base-exact) hv) hy below
 
-    pub pack-next : {r : Float} → Held r (number v + number y) → Held r (packed (number q) (drop (i - 1) (taken p xs)))
+    pub pack-next : {r : Float} → Held r (wholePart v + wholePart y) → Held r (packed (wholePart q) (drop (i - 1) (taken p xs)))
     pack-next hr = rw next at (plus-gives (times-gives h (pre .base-exact) hv) hy hr)
 
 -- ---- adding up
@@ -86,13 +86,13 @@ pub record Listed (s : Setting) (xs ys : List ℕ) : Type 0 where
   pub left-below : Below (s .p) xs
   pub right-below : Below (s .p) ys
 
-pub listed : (l : Lane) (xs ys : List ℕ) → sumChecks l xs ys ≡ fine → Listed (l .setting) xs ys
-unfolding sumChecks
+pub listed : (l : Lane) (xs ys : List ℕ) → laneSumChecks l xs ys ≡ fine → Listed (l .setting) xs ys
+unfolding laneSumChecks
 listed l xs ys e =
     let s = l .setting in
     let a = passed (heldCause l) 12 0 _ tt e in
     let b = passed (pairsCause (s .k) (length xs) (length ys)) 9 0 _ tt (a .1) in
-    let c = passed (fullCause (s .n) (length xs / s .k)) 13 0 _ tt (b .1) in
+    let c = passed (laneFullCause (s .n) (length xs / s .k)) 13 0 _ tt (b .1) in
     let within : LaneBounds s = held-within l (a .0) in
     let below = coefficients-check (s .p) xs ys (omega (arith, within .bounded .range .choice .p-low)) .0 (c .1) in
     record {
@@ -104,12 +104,12 @@ listed l xs ys e =
     }
 
 pub record Summing (l : Lane) (xs ys : List ℕ) : Type 0 where
-  pub working : Working l
+  pub proper : ProperLane l
   pub lists : Listed (l .setting) xs ys
 
-pub summing : (l : Lane) (xs ys : List ℕ) → Doubles l → sumChecks l xs ys ≡ fine → Summing l xs ys
-unfolding sumChecks
-summing l xs ys ds e = record { working = working l ds (passed (heldCause l) 12 0 _ tt e .0); lists = listed l xs ys e }
+pub summing : (l : Lane) (xs ys : List ℕ) → Doubles l → laneSumChecks l xs ys ≡ fine → Summing l xs ys
+unfolding laneSumChecks
+summing l xs ys ds e = record { proper = lane-proper l ds (passed (heldCause l) 12 0 _ tt e .0); lists = listed l xs ys e }
 
 abbrev pub sumSoFar : Setting → List ℕ → List ℕ → ℕ → ℕ
 sumSoFar s xs ys r = sumTo r (λ v. blockAt (base s) (s .k) (taken (s .p) xs) v * blockAt (base s) (s .k) (taken (s .p) ys) v)
@@ -157,14 +157,14 @@ module _ {l : Lane} {xs ys : List ℕ} (pre : Summing l xs ys) where
 
     -- one factor of the pair
     module _ (zs : List ℕ) (inside : r * s .k + s .k ≤ length zs) (below : Below (s .p) zs) where
-      factor : packed (number (l .q)) (taken (s .p) (part (r * s .k) (r * s .k + s .k) zs)) ≡ blockAt (base s) (s .k) (taken (s .p) zs) r
-      factor = rw (held-number (held-base (pre .working))) (taken-block (base s) (s .p) (s .k) zs r inside)
+      factor : packed (wholePart (l .q)) (taken (s .p) (part (r * s .k) (r * s .k + s .k) zs)) ≡ blockAt (base s) (s .k) (taken (s .p) zs) r
+      factor = rw (held-number (held-base (pre .proper))) (taken-block (base s) (s .p) (s .k) zs r inside)
 
       packing : Packing (s .p) (l .q) (part (r * s .k) (r * s .k + s .k) zs)
       packing = record {
         p-low = omega (arith, bounded .range .choice .p-low);
-        base-exact = held-exact (held-base (pre .working));
-        base-low = rw (held-number (held-base (pre .working))) (pow-pos (s .t));
+        base-exact = held-exact (held-base (pre .proper));
+        base-low = rw (held-number (held-base (pre .proper))) (pow-pos (s .t));
         room = rw factor (omega (arith, bounded .word-fits (block (s .k) (taken (s .p) zs) r) (block-operand (s .p) (s .k) (taken (s .p) zs) r (taken-low (s .p) zs below))));
       }
 
@@ -174,7 +174,7 @@ module _ {l : Lane} {xs ys : List ℕ} (pre : Summing l xs ys) where
     pub right-packing : Packing (s .p) (l .q) (part (r * s .k) (r * s .k + s .k) ys)
     right-packing = packing ys right-inside (pre .lists .right-below)
 
-    module _ {x y : Float} (hx : Held x (packed (number (l .q)) (taken (s .p) (part (r * s .k) (r * s .k + s .k) xs)))) (hy : Held y (packed (number (l .q)) (taken (s .p) (part (r * s .k) (r * s .k + s .k) ys)))) where
+    module _ {x y : Float} (hx : Held x (packed (wholePart (l .q)) (taken (s .p) (part (r * s .k) (r * s .k + s .k) xs)))) (hy : Held y (packed (wholePart (l .q)) (taken (s .p) (part (r * s .k) (r * s .k + s .k) ys)))) where
       left : Held x (blockAt (base s) (s .k) (taken (s .p) xs) r)
       left = rw (factor xs pair-inside (pre .lists .left-below)) at hx
 
@@ -185,14 +185,14 @@ module _ {l : Lane} {xs ys : List ℕ} (pre : Summing l xs ys) where
       room : sumSoFar s xs ys r + blockAt (base s) (s .k) (taken (s .p) xs) r * blockAt (base s) (s .k) (taken (s .p) ys) r < exactBelow
       room = omega (arith, sum-fewer (λ v. blockAt (base s) (s .k) (taken (s .p) xs) v * blockAt (base s) (s .k) (taken (s .p) ys) v) (suc r) pairs (omega arith), all, sum-small (pre .lists))
 
-      pub pair-times : Exact x × Exact y × (number x * number y < exactBelow)
+      pub pair-times : Exact x × Exact y × (wholePart x * wholePart y < exactBelow)
       pair-times = times-asks left right (omega (arith, room))
 
-      module _ {v z : Float} (hv : Held v (sumSoFar s xs ys r)) (hz : Held z (number x * number y)) where
-        pub pair-plus : Exact v × Exact z × (number v + number z < exactBelow)
+      module _ {v z : Float} (hv : Held v (sumSoFar s xs ys r)) (hz : Held z (wholePart x * wholePart y)) where
+        pub pair-plus : Exact v × Exact z × (wholePart v + wholePart z < exactBelow)
         pair-plus = plus-asks hv (times-gives left right hz) room
 
-        pub pair-next : {u : Float} → Held u (number v + number z) → Held u (sumSoFar s xs ys (r + 1))
+        pub pair-next : {u : Float} → Held u (wholePart v + wholePart z) → Held u (sumSoFar s xs ys (r + 1))
         pair-next hu =
             let more : sumSoFar s xs ys r + blockAt (base s) (s .k) (taken (s .p) xs) r * blockAt (base s) (s .k) (taken (s .p) ys) r ≡ sumSoFar s xs ys (r + 1) = rw (add-one r) (omega arith) in
             rw more at (plus-gives hv (times-gives left right hz) hu)

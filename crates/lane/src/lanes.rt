@@ -3,16 +3,16 @@ ghost use mathlib.Core.Path.{_≡_};
 ghost use mathlib.Core.Bool.{false};
 ghost use Prim.Native.Nat.{_^_, _<_};
 ghost use lib.Ieee.{isNan};
-ghost use Rattle.doubles.specs.Whole.{differs};
-ghost use Rattle.packed.specs.Settings.{checkedSays};
-ghost use Rattle.packed.specs.Bounds.{Bounds};
+ghost use Rattle.doubles.specs.Whole.{differsInBits};
+ghost use Rattle.settings.specs.Settings.{checkedSays};
+ghost use Rattle.settings.specs.Bounds.{Bounds};
 ghost use Rattle.lane.specs.Lanes.{laneBits, laneCause, makeChecks, laneOf, otherDoubles, heldCause, improperCause};
 ghost use Rattle.lane.specs.LaneLaws.{LaneBounds};
 use crate::Lane;
-use packed::refusals;
-use packed::setting::Checked;
-use packed::setting::Setting;
-use packed::setting::check;
+use settings::refusals;
+use settings::setting::Checked;
+use settings::setting::Setting;
+use settings::setting::check;
 use std::num::truncating_f64_to_u64;
 
 // A double has 53 bits.
@@ -87,7 +87,7 @@ fn other_doubles(lane: Lane) -> bool
 // In any bit. Of a NaN no bits can be had, and none are asked for.
 fn differ(x: f64, y: f64) -> bool
     requires { ⌜ isNan y ≡ false ⌝ }
-    ensures { λ r. ⌜ r ≡ differs x y ⌝ }
+    ensures { λ r. ⌜ r ≡ differsInBits x y ⌝ }
 {
     if x != x {
         return true;

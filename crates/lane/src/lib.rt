@@ -15,10 +15,10 @@ use crate::lanes::lane_of;
 use crate::residues::reduce_word;
 use crate::sums::add_products;
 use crate::sums::check_sum;
-use packed::refusals;
-use packed::refusals::Refusal;
-use packed::setting::Checked;
-use packed::setting::Setting;
+use settings::refusals;
+use settings::refusals::Refusal;
+use settings::setting::Checked;
+use settings::setting::Setting;
 
 // The setting, and beside it p, q and 1/p as doubles.
 pub struct Lane {

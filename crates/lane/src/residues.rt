@@ -2,9 +2,9 @@
 ghost use mathlib.Core.Path.{_≡_};
 ghost use Prim.Native.Nat.{_*_, _/_, _<_};
 ghost use Rattle.polynomials.specs.Places.{shifted, minus};
-ghost use Rattle.doubles.specs.Whole.{number, Held};
-ghost use Rattle.packed.specs.Limits.{wordBits};
-ghost use Rattle.packed.specs.Settings.{base};
+ghost use Rattle.doubles.specs.Whole.{wholePart, Held};
+ghost use Rattle.settings.specs.Limits.{wordBits};
+ghost use Rattle.settings.specs.Settings.{base};
 ghost use Rattle.packed.specs.Places.{reducedWord};
 ghost use Rattle.lane.specs.ResidueLaws.{Reducing, Correcting};
 use crate::Lane;
@@ -13,12 +13,12 @@ use crate::exact::plus;
 use crate::exact::times;
 use crate::quotients::quotient;
 use crate::quotients::remainder;
-use packed::setting::Setting;
+use settings::setting::Setting;
 
 // The word of the m, from the highest place down. Above the last place stands nothing, so the last m is the last u.
 pub fn reduce_word(lane: Lane, x: f64) -> f64
     requires { ⌜ Reducing lane x ⌝ }
-    ensures { λ r. ⌜ Held r (reducedWord (lane .setting) (number x)) ⌝ }
+    ensures { λ r. ⌜ Held r (reducedWord (lane .setting) (wholePart x)) ⌝ }
 {
     let s = lane.setting;
     let word = x as u64;
@@ -47,7 +47,7 @@ fn shifted_residue(s: Setting, i: u64, word: u64, whole: u64) -> u64
 // m_i = (u_i - q u_(i+1)) mod p
 fn corrected(lane: Lane, u: f64, above: f64) -> f64
     requires { ⌜ Correcting lane u above ⌝ }
-    ensures { λ r. ⌜ Held r (minus (lane .setting .p) (number u) (base (lane .setting) * number above)) ⌝ }
+    ensures { λ r. ⌜ Held r (minus (lane .setting .p) (wholePart u) (base (lane .setting) * wholePart above)) ⌝ }
 {
     let taken = remainder(lane, times(lane.q, above));
     if u < taken {

@@ -3,22 +3,22 @@
 ghost use mathlib.Core.Path.{_≡_};
 ghost use Prim.Native.Nat.{_<_};
 ghost use Rattle.polynomials.specs.Places.{packed};
-ghost use Rattle.doubles.specs.Whole.{number, Held};
-ghost use Rattle.packed.specs.Settings.{checkedSays};
-ghost use Rattle.packed.specs.Coefficients.{taken, takenOne};
-ghost use Rattle.lane.specs.Lanes.{sumChecks, sumWord};
+ghost use Rattle.doubles.specs.Whole.{wholePart, Held};
+ghost use Rattle.settings.specs.Settings.{checkedSays};
+ghost use Rattle.packed.specs.Taken.{taken, takenOne};
+ghost use Rattle.lane.specs.Lanes.{laneSumChecks, sumWord};
 ghost use Rattle.lane.specs.SumLaws.{Summing, Packing};
 use crate::Lane;
 use crate::exact::plus;
 use crate::exact::times;
 use crate::lanes::held_cause;
-use packed::coefficients::check_coefficients;
-use packed::refusals;
-use packed::setting::Checked;
+use settings::coefficients::check_coefficients;
+use settings::refusals;
+use settings::setting::Checked;
 
 // 12, 9, 13, 8.
 pub fn check_sum(lane: Lane, xs: &[u16], ys: &[u16]) -> Checked
-    ensures { λ r. ⌜ checkedSays r ≡ sumChecks lane (now (xs .entry)) (now (ys .entry)) ⌝ }
+    ensures { λ r. ⌜ checkedSays r ≡ laneSumChecks lane (now (xs .entry)) (now (ys .entry)) ⌝ }
 {
     if held_cause(lane) {
         return Checked::Refused(refusals::RECORD);
@@ -59,7 +59,7 @@ pub fn add_products(lane: Lane, xs: &[u16], ys: &[u16]) -> f64
 // The word of the coefficients as packing takes them, from the highest place down.
 fn pack_double(p: u64, q: f64, xs: &[u16]) -> f64
     requires { ⌜ Packing p q (now xs) ⌝ }
-    ensures { λ r. ⌜ Held r (packed (number q) (taken p (now (xs .entry)))) ⌝ }
+    ensures { λ r. ⌜ Held r (packed (wholePart q) (taken p (now (xs .entry)))) ⌝ }
 {
     let mut w = 0.0;
     let mut i = xs.len();

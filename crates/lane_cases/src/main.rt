@@ -9,8 +9,8 @@ use lane::Made;
 use lane::make;
 use lane::reduce;
 use lane::sum;
-use packed::setting::Setting;
 use samples::fill;
+use settings::setting::Setting;
 use std::num::nearest_u64_to_f64;
 use std::num::truncating_f64_to_u64;
 

@@ -1,6 +1,6 @@
 -- How a buffer begins. Assumes nothing.
 --     startsWith buf bs         the buffer starts with exactly these bytes; later ones are not looked at
---     differs buf bs i          at place i it does not: it has ended, or another byte stands there
+--     differsAt buf bs i        at place i it does not: it has ended, or another byte stands there
 --     firstDifference buf bs    the first place of bs where it differs, and the length of bs where there is none
 --     differs-ended, differs-byte, agrees
 --                               the two ways to differ, and neither
@@ -10,7 +10,6 @@
 use Prim.Native.Nat.{ℕ, _≤_, _<_}
 use mathlib.Core.Path.{_≡_, refl, sym, ap, _∙_}
 use mathlib.Core.Bool.{Bool, true, false, not, _||_, _&&_, true≢false, or-true, and-eq-true-iff}
-use mathlib.Mathlib.Data.Bool.Basic.{or-eq-false-eq-eq-false-and-eq-false}
 use mathlib.Core.List.{List, [], _∷_}
 use mathlib.Core.Logic.{_↔_}
 use native.Mathlib.Decide.{decLe}
@@ -19,6 +18,7 @@ use lib.Dec.{leb, eqb}
 use lib.ListN.{length, take, drop, length-take}
 use lib.Seq.{getD-take, take-all, length-take-le}
 use borrow.Author.Tests.{le-leb, lt-leb, leb-false, eq-eqb, ne-eqb, eqb-true, not-false}
+use Rattle.polynomials.specs.Tests.{neither}
 use Rattle.polynomials.specs.Indices.{first}
 use Rattle.polynomials.specs.IndexLaws.{first-is, first-only, first-none}
 use Rattle.polynomials.specs.Lists.{coefficient}
@@ -29,24 +29,24 @@ startsWith buf [] = true
 startsWith [] (b ∷ bs) = false
 startsWith (x ∷ buf) (b ∷ bs) = eqb x b && startsWith buf bs
 
-abbrev pub differs : List ℕ → List ℕ → ℕ → Bool
-differs buf bs i = leb (length buf) i || not (eqb (coefficient buf i) (coefficient bs i))
+abbrev pub differsAt : List ℕ → List ℕ → ℕ → Bool
+differsAt buf bs i = leb (length buf) i || not (eqb (coefficient buf i) (coefficient bs i))
 
 abbrev pub firstDifference : List ℕ → List ℕ → ℕ
-firstDifference buf bs = first (differs buf bs) (length bs) 0
+firstDifference buf bs = first (differsAt buf bs) (length bs) 0
 
 -- ---- at one place
 
 module _ (buf bs : List ℕ) (i : ℕ) where
-  pub differs-ended : length buf ≤ i → differs buf bs i ≡ true
+  pub differs-ended : length buf ≤ i → differsAt buf bs i ≡ true
   differs-ended h = rw (le-leb (length buf) i h)
 
-  pub differs-byte : (coefficient buf i ≡ coefficient bs i → ⊥) → differs buf bs i ≡ true
+  pub differs-byte : (coefficient buf i ≡ coefficient bs i → ⊥) → differsAt buf bs i ≡ true
   differs-byte h = rw (ne-eqb (coefficient buf i) (coefficient bs i) h) (or-true (leb (length buf) i))
 
-  pub agrees : (differs buf bs i ≡ false) ↔ ((i < length buf) × (coefficient buf i ≡ coefficient bs i))
+  pub agrees : (differsAt buf bs i ≡ false) ↔ ((i < length buf) × (coefficient buf i ≡ coefficient bs i))
   agrees = (
-    λ e. let both = or-eq-false-eq-eq-false-and-eq-false (leb (length buf) i) _ .0 e in
+    λ e. let both = neither (leb (length buf) i) _ e in
         (leb-false (length buf) i (both .0), eqb-true (coefficient buf i) (coefficient bs i) (not-false _ (both .1))),
     λ h. rw (lt-leb (length buf) i (h .0), eq-eqb (coefficient buf i) (coefficient bs i) (h .1)),
   )
@@ -74,7 +74,7 @@ through : (buf bs : List ℕ) → length bs ≤ firstDifference buf bs → take 
 through buf bs h = go (decLe (length bs) (length buf))
   where
     at : (i : ℕ) → i < length bs → (i < length buf) × (coefficient buf i ≡ coefficient bs i)
-    at i l = agrees buf bs i .0 (first-none (differs buf bs) (length bs) .0 h i l)
+    at i l = agrees buf bs i .0 (first-none (differsAt buf bs) (length bs) .0 h i l)
 
     go : Dec (length bs ≤ length buf) → take (length bs) buf ≡ bs
     go (yes l) =
@@ -83,10 +83,10 @@ through buf bs h = go (decLe (length bs) (length buf))
     go (no l) = let ended = at (length buf) (omega arith) .0 in absurd (omega arith)
 
 -- the place where the beginnings part
-pub first-difference : (buf bs : List ℕ) (i : ℕ) → i ≤ length bs → take i buf ≡ take i bs → i ≤ length buf → (i < length bs → differs buf bs i ≡ true)
+pub first-difference : (buf bs : List ℕ) (i : ℕ) → i ≤ length bs → take i buf ≡ take i bs → i ≤ length buf → (i < length bs → differsAt buf bs i ≡ true)
     → firstDifference buf bs ≡ i
 first-difference buf bs i h same room parts =
-    first-only (differs buf bs) (length bs) 0 (firstDifference buf bs) i (first-is (differs buf bs) (length bs) 0)
+    first-only (differsAt buf bs) (length bs) 0 (firstDifference buf bs) i (first-is (differsAt buf bs) (length bs) 0)
     (record {
       low = omega arith;
       high = omega arith;

@@ -1,13 +1,13 @@
 // The lines of the cases programs, piece by piece, on standard output. Numbers are decimal, with a space before each.
 ghost use Rattle.lines.specs.Lines.{Prints, PrintsList};
 use libc::STDOUT_FILENO;
-use packed::answers::Packed;
-use packed::answers::Wrote;
-use packed::refusals::Refusal;
 use packed::running::Closed;
+use packed::running::Counted;
 use packed::running::Record;
-use packed::running::Taken;
-use packed::setting::Checked;
+use settings::answers::Packed;
+use settings::answers::Wrote;
+use settings::refusals::Refusal;
+use settings::setting::Checked;
 
 pub fn text(piece: &[u8])
     ensures { λ r. ⌜ PrintsList (now (piece .entry)) (now (piece .exit)) r ⌝ }
@@ -83,15 +83,15 @@ pub fn checked(answer: Checked)
     text(b":");
 }
 
-pub fn taken(answer: Taken)
+pub fn taken(answer: Counted)
     ensures { λ r. ⌜ Prints r ⌝ }
 {
     match answer {
-        Taken::Pairs(m) => {
+        Counted::Pairs(m) => {
             text(b": took");
             number(m as u64);
         }
-        Taken::Refused(r) => refusal(r),
+        Counted::Refused(r) => refusal(r),
     }
     text(b":");
 }

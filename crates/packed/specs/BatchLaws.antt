@@ -1,8 +1,8 @@
--- Words that each hold one packed polynomial, and the batches of their products. Assumes nothing.
+-- Words that each hold one packed polynomial, and the batches of their products: for the workers of product alone. Assumes nothing.
+-- Sums of products are told by what they are worth in every base b: a word's polynomial, taken out of its places in the base q and packed in b. In
+-- each base adding polynomials is adding numbers, and their product is one product, so that no law here goes place by place. Two lists that are worth
+-- the same in every base are the same; in the base 1 the worth is the sum of all coefficients, which bounds each of them.
 --     PackedWord s w, PackedWords s ws    w is the word of an operand; each of the words ws is
---     taken-part                          what packing takes of the part of a list where block i stands is block i of what it takes of the list
---     taken-block                         and so they pack to one number, where the block is whole
---     taken-turn, taken-most              packing from the highest place down: the turn from place i to the one below, which gives no more than the whole
 --     packed-word                         the word of an operand is one
 --     worth s b ws i                      word i, as its polynomial packs in the base b
 --     columnWorth s b xs ys i j m         the sum of m products of words, from i in xs and from j in ys on, at that worth
@@ -10,27 +10,24 @@
 --     columns-none, columns-join, columns-fewer
 --                                         of no products; of some and then more; of fewer, which are worth no more
 --     columns-one                         in the base 1 places do not count
---     batch-fits                          a batch of at most n products is below 2^64
+--     column-fits                         a batch of at most n products is below 2^64
 --     batch-worth                         its word, taken apart into 2k-1 fields and put together in the base b, is the sum at that worth
-use Prim.Native.Nat.{ℕ, _+_, _-_, _*_, _^_, _≤_, _<_, min}
-use mathlib.Core.Path.{_≡_, sym, ap, _∙_}
+use Prim.Native.Nat.{ℕ, _+_, _-_, _*_, _^_, _≤_, _<_}
+use mathlib.Core.Path.{_≡_, ap, _∙_}
 use mathlib.Core.List.{List}
 use native.Mathlib.Nat.{le-trans, lt-of-le-of-lt, zero-mul, mul-one}
-use native.Mathlib.Decide.{decLt}
 use native.Mathlib.Omega.{arith}
-use lib.ListN.{length, drop, length-take}
-use Rattle.polynomials.specs.IndexLaws.{length-upto, sum-same, sum-join}
-use Rattle.polynomials.specs.Lists.{coefficient, part, Below, Operand, Pair, Pairs, sumOfProducts, batchMost}
-use Rattle.polynomials.specs.ListLaws.{coefficient-past, coefficient-part}
+use lib.ListN.{length}
+use Rattle.polynomials.specs.IndexLaws.{sum-same, sum-join}
+use Rattle.polynomials.specs.Lists.{coefficient, Below, Operand, Pair, Pairs, sumOfProducts, batchMost}
 use Rattle.polynomials.specs.BoundLaws.{batch-most, batch-more, batch-past}
 use Rattle.polynomials.specs.Places.{packed, fields, sumOfWords}
-use Rattle.polynomials.specs.PlaceLaws.{packed-agree, packed-turn, packed-part, fields-packed, one-power}
-use Rattle.polynomials.specs.Blocks.{block, blockAt, pairsUpto, dot, spread}
-use Rattle.polynomials.specs.BlockLaws.{coefficient-block, length-pairs, pairs-operands, words-of-pairs, spread-words}
-use Rattle.packed.specs.Settings.{base, places}
-use Rattle.packed.specs.Coefficients.{taken, takenOne, taken-length, taken-at}
-use Rattle.packed.specs.Bounds.{Bounds, batch-sum}
-use Rattle.packed.specs.declared.setting.Setting.{Setting}
+use Rattle.polynomials.specs.PlaceLaws.{fields-packed, one-power}
+use Rattle.polynomials.specs.Blocks.{pairsUpto, dot, spread}
+use Rattle.polynomials.specs.BlockLaws.{length-pairs, pairs-operands, words-of-pairs, spread-words}
+use Rattle.settings.specs.Settings.{base, places}
+use Rattle.settings.specs.Bounds.{Bounds, pairs-fit}
+use Rattle.settings.specs.declared.setting.Setting.{Setting}
 
 pub record PackedWord (s : Setting) (w : ℕ) : Type 0 where
   pub operand : Operand (s .p) (s .k) (fields (base s) (s .k) w)
@@ -51,33 +48,6 @@ columnsWorth s b xs ys i j m at =
     + columnWorth s b xs ys i (j + 2) m * b ^ (at + s .k)
     + columnWorth s b xs ys i (j + 1) m * b ^ (at + 2 * s .k)
     + columnWorth s b xs ys i (j + 0) m * b ^ (at + 3 * s .k)
-
-pub taken-part : (p k : ℕ) (xs : List ℕ) (i start end j : ℕ) → start ≡ min (i * k) (length xs) → end ≡ min (start + k) (length xs)
-    → coefficient (taken p (part start end xs)) j ≡ coefficient (block k (taken p xs) i) j
-taken-part p k xs i start end j hs he = go (decLt j (end - start)) (decLt j k)
-  where
-    go : Dec (j < end - start) → Dec (j < k) → coefficient (taken p (part start end xs)) j ≡ coefficient (block k (taken p xs) i) j
-    go (yes l) d =
-        let here : start ≡ i * k = omega arith in
-        let at : coefficient (part start end xs) j ≡ coefficient xs (i * k + j) = coefficient-part start end xs j l ∙ rw here in
-        taken-at p (part start end xs) j ∙ rw (at, ← taken-at p xs (i * k + j)) (sym (coefficient-block k (taken p xs) i j (omega arith)))
-    go (no l) (yes h) =
-        coefficient-past (taken p (part start end xs)) j (simp (taken-length, length-take) (omega arith))
-        ∙ sym (coefficient-block k (taken p xs) i j h ∙ coefficient-past (taken p xs) (i * k + j) (rw taken-length (omega arith)))
-    go (no l) (no h) =
-        coefficient-past (taken p (part start end xs)) j (simp (taken-length, length-take) (omega arith))
-        ∙ sym (coefficient-past (block k (taken p xs) i) j (rw length-upto (omega arith)))
-
-pub taken-block : (q p k : ℕ) (xs : List ℕ) (i : ℕ) → i * k + k ≤ length xs → packed q (taken p (part (i * k) (i * k + k) xs)) ≡ blockAt q k (taken p xs) i
-taken-block q p k xs i h =
-    packed-agree q (taken p (part (i * k) (i * k + k) xs)) (block k (taken p xs) i) (λ j. taken-part p k xs i (i * k) (i * k + k) j (omega arith) (omega arith))
-
-module _ (q p : ℕ) (xs : List ℕ) (i w : ℕ) where
-  pub taken-turn : 0 < i → i ≤ length xs → w ≡ packed q (drop i (taken p xs)) → w * q + takenOne p (coefficient xs (i - 1)) ≡ packed q (drop (i - 1) (taken p xs))
-  taken-turn above top e = rw (← taken-at p xs (i - 1)) (packed-turn q (taken p xs) i w above (rw taken-length top) e)
-
-  pub taken-most : 0 < q → 0 < i → i ≤ length xs → w ≡ packed q (drop i (taken p xs)) → w * q + takenOne p (coefficient xs (i - 1)) ≤ packed q (taken p xs)
-  taken-most hq above top e = rw (taken-turn above top e) (packed-part q hq (taken p xs) (i - 1))
 
 pub packed-word : (s : Setting) (xs : List ℕ) → Bounds s → length xs ≡ s .k → Below (s .p) xs → PackedWord s (packed (base s) xs)
 packed-word s xs b size below =
@@ -138,8 +108,8 @@ module _ (s : Setting) (b : Bounds s) (xs ys : List ℕ) (hx : PackedWords s xs)
   most : (u : ℕ) → coefficient (sumOfProducts cs) u ≤ batchMost (s .p) (s .k) (s .n) u
   most u = le-trans (batch-most (s .p) (s .k) cs operands u) (batch-more (s .p) (s .k) (length cs) (s .n) (rw length-pairs few) u)
 
-  pub batch-fits : dot (coefficient xs) (coefficient ys) i j m < 2 ^ 64
-  batch-fits = rw (← word) (batch-sum s b cs operands (rw length-pairs few))
+  pub column-fits : dot (coefficient xs) (coefficient ys) i j m < 2 ^ 64
+  column-fits = rw (← word) (pairs-fit s b cs operands (rw length-pairs few))
 
   pub batch-worth : (c : ℕ) → spread (base s) (places s) c (dot (coefficient xs) (coefficient ys) i j m) ≡ dot (worth s c xs) (worth s c ys) i j m
   batch-worth c =

@@ -9,17 +9,16 @@ use mathlib.Core.Path.{_≡_}
 use mathlib.Core.Bool.{false}
 use mathlib.Core.List.{List, [], _∷_, _++_}
 use lib.ListN.{length}
-use Rattle.polynomials.specs.Indices.{upto}
+use Rattle.polynomials.specs.Indices.{upto, roundedUp}
 use Rattle.polynomials.specs.Lists.{coefficient, Pair, sumOfProducts}
 use Rattle.polynomials.specs.Places.{packed}
-use Rattle.polynomials.specs.Blocks.{blocks}
 use Rattle.polynomials.specs.Pairs.{fullBatches, openBatch}
-use Rattle.packed.specs.Limits.{residuePlaces}
-use Rattle.packed.specs.Answers.{answered, Verdict, refuse, refuses, _andThen_, leftBy}
-use Rattle.packed.specs.SharedAnswers.{shortCause}
-use Rattle.packed.specs.Settings.{base, places}
-use Rattle.packed.specs.Running.{takenSays, closedSays, Feeds}
-use Rattle.packed.specs.declared.setting.Setting.{Setting}
+use Rattle.settings.specs.Limits.{residuePlaces}
+use Rattle.settings.specs.Answers.{answered, Verdict, refuse, refuses, _andThen_, leftBy}
+use Rattle.settings.specs.SharedAnswers.{shortCause}
+use Rattle.settings.specs.Settings.{base, places}
+use Rattle.packed.specs.Running.{countedSays, closedSays, Feeds}
+use Rattle.settings.specs.declared.setting.Setting.{Setting}
 use Rattle.packed.specs.declared.running.Sum.{Sum}
 use Rattle.packed.specs.declared.running.Record.{Record}
 use Rattle.packed.specs.declared.running.Fed.{Fed}
@@ -32,7 +31,7 @@ pub record Call : Type 0 where
 
 abbrev pub Calls : Record → List Call → Record → Type 0
 Calls r [] z = r ≡ z
-Calls r (c ∷ cs) z = Feeds r (c .left) (c .right) (c .gave) × (refuses (takenSays (c .gave .answer)) ≡ false) × Calls (c .gave .running) cs z
+Calls r (c ∷ cs) z = Feeds r (c .left) (c .right) (c .gave) × (refuses (countedSays (c .gave .answer)) ≡ false) × Calls (c .gave .running) cs z
 
 abbrev pub lefts : List Call → List ℕ
 lefts [] = []
@@ -48,7 +47,7 @@ schoolbook s cs = upto (places s) (λ j. coefficient (sumOfProducts cs) j % s .p
 abbrev pub ClosesTo : Setting → List Pair → List ℕ → Closed → List ℕ → Type 0
 ClosesTo s cs old a after =
     let short : Verdict = refuse (shortCause (places s) (length old)) 10 0 in
-    (closedSays a ≡ (short andThen answered (blocks (s .n) (length cs)))) × (after ≡ leftBy short (schoolbook s cs) old)
+    (closedSays a ≡ (short andThen answered (roundedUp (length cs) (s .n)))) × (after ≡ leftBy short (schoolbook s cs) old)
 
 abbrev pub sumOf : Setting → List Pair → Sum
 sumOf s cs = record {

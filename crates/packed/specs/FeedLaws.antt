@@ -1,13 +1,10 @@
--- The sums of a feed, a batch at a time, on plain values. Assumes nothing.
---     fed-operands, fed-count     the pairs of two flat lists are operands, and so many
---     run-count, run-words, run-operands
---                                 pairs that follow one another: how many, the sum of their packed products, that they are operands
+-- The sums of a feed, a batch at a time, on plain values: for the workers of feed alone. Assumes nothing.
 --     multiplying                 the pairs of an open batch can be multiplied and added up in its word
---     batch-full, batch-open      the sum after them, where the batch is full and where it is not
+--     batch-full, batch-unfilled      the sum after them, where the batch is full and where it is not
 --     soFar s u xs ys i           the sum after the first i pairs
 --     FedSoFar s u xs ys v held i
 --                                 that v is it, and that its open batch holds held pairs
---     fed-none, fed-batch, fed-more, fed-further, fed-all
+--     so-far-none, so-far-batch, so-far-more, so-far-further, so-far-all
 --                                 before the first; the next batch; after it; that it has a pair; after all of them
 use Prim.Native.Nat.{ℕ, _+_, _-_, _*_, _/_, _%_, _^_, _≤_, _<_, min}
 use mathlib.Core.Path.{_≡_, refl, sym, ap, _∙_}
@@ -19,46 +16,18 @@ use borrow.Author.Tests.{eq-eqb, ne-eqb}
 use Rattle.polynomials.specs.Lists.{Below, Pair, Pairs}
 use Rattle.polynomials.specs.Places.{sumOfWords}
 use Rattle.polynomials.specs.Blocks.{block, blockAt, pairsUpto}
-use Rattle.polynomials.specs.BlockLaws.{block-operand, length-pairs, pairs-operands, words-of-pairs}
-use Rattle.polynomials.specs.PairLaws.{length-pairs-of, pairs-of-operands, pairs-more}
-use Rattle.packed.specs.Limits.{mostCoefficients, mostPairs}
-use Rattle.packed.specs.Settings.{base}
-use Rattle.packed.specs.Coefficients.{taken, taken-low, taken-length}
-use Rattle.packed.specs.Bounds.{Bounds, bounds}
-use Rattle.packed.specs.Running.{openPairs, Coherent, split, afterPairs, fedPairs}
-use Rattle.packed.specs.RunningLaws.{word-room, withPairs, batch-after, after-join, after-total, coherent-after}
-use Rattle.packed.specs.Feeding.{Feeding, fedSum, pairsFrom, OpenBatch, batchSum, products, Multiplying}
-use Rattle.packed.specs.declared.setting.Setting.{Setting}
+use Rattle.polynomials.specs.BlockLaws.{block-operand, length-pairs, pairs-operands}
+use Rattle.polynomials.specs.PairLaws.{pairs-more}
+use Rattle.settings.specs.Limits.{mostCoefficients, mostPairs}
+use Rattle.settings.specs.Settings.{base}
+use Rattle.packed.specs.Taken.{taken, taken-low, taken-length}
+use Rattle.settings.specs.Bounds.{Bounds, bounds}
+use Rattle.packed.specs.Running.{openPairs, Coherent, split, afterPairs}
+use Rattle.packed.specs.RunningLaws.{open-room, withPairs, batch-after, after-join, after-total, coherent-after}
+use Rattle.packed.specs.Feeding.{OpenBatch, afterBatch, Multiplying}
+use Rattle.packed.specs.FedPairs.{PairsToFeed, fedSum, pairsFrom, products, run-count, run-words, run-operands}
+use Rattle.settings.specs.declared.setting.Setting.{Setting}
 use Rattle.packed.specs.declared.running.Sum.{Sum}
-
--- ---- the pairs of two flat lists
-
-pub fed-operands : (s : Setting) (xs ys : List ℕ) → Below (s .p) xs → Below (s .p) ys → Pairs (s .p) (s .k) (fedPairs s xs ys)
-fed-operands s xs ys hx hy = pairs-of-operands (s .p) (s .k) (taken (s .p) xs) (taken (s .p) ys) (taken-low (s .p) xs hx) (taken-low (s .p) ys hy)
-
-pub fed-count : (s : Setting) (xs ys : List ℕ) → length (fedPairs s xs ys) ≡ length xs / s .k
-fed-count s xs ys = length-pairs-of (s .k) (taken (s .p) xs) (taken (s .p) ys) ∙ ap (λ (n : ℕ). n / s .k) (taken-length (s .p) xs)
-
--- ---- pairs that follow one another
-
-module _ (s : Setting) (xs ys : List ℕ) (i m : ℕ) where
-  abbrev left : ℕ → List ℕ
-  left r = block (s .k) (taken (s .p) xs) (i + r)
-
-  abbrev right : ℕ → List ℕ
-  right r = block (s .k) (taken (s .p) ys) (i + r)
-
-  pub run-count : length (pairsFrom s xs ys i m) ≡ m
-  run-count = length-pairs m left right
-
-  pub run-words : sumOfWords (base s) (pairsFrom s xs ys i m) ≡ products (s .p) (s .t) (s .k) xs ys i m
-  run-words = words-of-pairs (base s) m left right
-
-  pub run-operands : Below (s .p) xs → Below (s .p) ys → Pairs (s .p) (s .k) (pairsFrom s xs ys i m)
-  run-operands hx hy =
-      pairs-operands (s .p) (s .k) m left right
-      (λ r. block-operand (s .p) (s .k) (taken (s .p) xs) (i + r) (taken-low (s .p) xs hx))
-      (λ r. block-operand (s .p) (s .k) (taken (s .p) ys) (i + r) (taken-low (s .p) ys hy))
 
 -- ---- a batch
 
@@ -94,7 +63,7 @@ module _ {s : Setting} {u : Sum} {held : ℕ} {xs ys : List ℕ} {i m : ℕ} (pr
     right-room = pre .right-room;
     left-fits = word-of xs (pre .left-below);
     right-fits = word-of ys (pre .right-below);
-    total = rw words at (word-room s u (pre .coherent) cs operands few);
+    total = rw words at (open-room s u (pre .coherent) cs operands few);
   }
 
   module _ {w : ℕ} (is : w ≡ u .word + products (s .p) (s .t) (s .k) xs ys i m) where
@@ -104,13 +73,13 @@ module _ {s : Setting} {u : Sum} {held : ℕ} {xs ys : List ℕ} {i m : ℕ} (pr
     same : withPairs s u (length cs) (sumOfWords (base s) cs) ≡ added
     same = rw (count, words, is)
 
-    pub batch-full : held ≡ s .n → split s added ≡ batchSum s u xs ys i m
+    pub batch-full : held ≡ s .n → split s added ≡ afterBatch s u xs ys i m
     batch-full e =
         let full : openPairs s u + length cs ≡ s .n = rw count (omega (arith, pre .pairs)) in
         sym (batch-after s (bounded .range .choice .n-low) u cs few ∙ rw (eq-eqb (openPairs s u + length cs) (s .n) full) (ap (split s) same))
 
-    pub batch-open : (held ≡ s .n → ⊥) → added ≡ batchSum s u xs ys i m
-    batch-open other =
+    pub batch-unfilled : (held ≡ s .n → ⊥) → added ≡ afterBatch s u xs ys i m
+    batch-unfilled other =
         let more : openPairs s u + length cs ≡ s .n → ⊥ = λ e. other (omega (arith, pre .pairs, count)) in
         sym (batch-after s (bounded .range .choice .n-low) u cs few ∙ rw (ne-eqb (openPairs s u + length cs) (s .n) more) same)
 
@@ -124,16 +93,16 @@ pub record FedSoFar (s : Setting) (u : Sum) (xs ys : List ℕ) (v : Sum) (held i
   pub here : v ≡ soFar s u xs ys i
   pub pairs : held ≡ openPairs s v
 
-module _ {s : Setting} {u : Sum} {xs ys : List ℕ} (pre : Feeding s u xs ys) where
+module _ {s : Setting} {u : Sum} {xs ys : List ℕ} (pre : PairsToFeed s u xs ys) where
   b : Bounds s
   b = bounds s (pre .coherent .accepted)
 
   size : length xs ≡ length xs / s .k * s .k
   size = omega (arith, div-add-mod' (length xs) (s .k), pre .whole)
 
-  pub fed-none : FedSoFar s u xs ys u (openPairs s u) 0
+  pub so-far-none : FedSoFar s u xs ys u (openPairs s u) 0
   unfolding afterPairs
-  fed-none = record { most = omega arith; here = refl; pairs = refl }
+  so-far-none = record { most = omega arith; here = refl; pairs = refl }
 
   module _ {v : Sum} {held i m : ℕ} (fed : FedSoFar s u xs ys v held i) (more : i < length xs / s .k) (take : m ≡ min (s .n - held) (length xs / s .k - i)) where
     abbrev done : List Pair
@@ -163,8 +132,8 @@ module _ {s : Setting} {u : Sum} {xs ys : List ℕ} (pre : Feeding s u xs ys) wh
     reach : (i + m) * s .k ≤ length xs
     reach = omega (arith, size, mul-le-mul-right {m = i + m} {n = length xs / s .k} (s .k) inside)
 
-    pub fed-batch : OpenBatch s v (held + m) xs ys i m
-    fed-batch = record {
+    pub so-far-batch : OpenBatch s v (held + m) xs ys i m
+    so-far-batch = record {
       coherent = coherent;
       pairs = omega (arith, fed .pairs);
       most = omega (arith, open-few);
@@ -176,8 +145,8 @@ module _ {s : Setting} {u : Sum} {xs ys : List ℕ} (pre : Feeding s u xs ys) wh
       right-room = omega (arith, reach, pre .same-size);
     }
 
-    pub fed-more : {w : Sum} {next : ℕ} → w ≡ batchSum s v xs ys i m → next ≡ (held + m) % s .n → FedSoFar s u xs ys w next (i + m)
-    fed-more {w} is e = record {
+    pub so-far-more : {w : Sum} {next : ℕ} → w ≡ afterBatch s v xs ys i m → next ≡ (held + m) % s .n → FedSoFar s u xs ys w next (i + m)
+    so-far-more {w} is e = record {
       most = inside;
       here =
           is
@@ -188,10 +157,10 @@ module _ {s : Setting} {u : Sum} {xs ys : List ℕ} (pre : Feeding s u xs ys) wh
           e ∙ rw (fed .pairs, counted) (mod-add-mod (v .total) (s .n) m);
     }
 
-    pub fed-further : i < i + m
-    fed-further = omega (arith, open-few)
+    pub so-far-further : i < i + m
+    so-far-further = omega (arith, open-few)
 
-  pub fed-all : {v : Sum} {held i : ℕ} → FedSoFar s u xs ys v held i → length xs / s .k ≤ i → v ≡ fedSum s u xs ys
-  fed-all {i = i} fed through =
+  pub so-far-all : {v : Sum} {held i : ℕ} → FedSoFar s u xs ys v held i → length xs / s .k ≤ i → v ≡ fedSum s u xs ys
+  so-far-all {i = i} fed through =
       let all : i ≡ length (taken (s .p) xs) / s .k = omega (arith, fed .most, ap (λ (n : ℕ). n / s .k) (taken-length (s .p) xs)) in
       fed .here ∙ ap (soFar s u xs ys) all

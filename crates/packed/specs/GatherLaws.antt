@@ -7,7 +7,7 @@
 --     gathered-all                after all of them, the sums are the product's coefficients
 --     blocks-lie                  blank lists that were filled with the words of the blocks are as gathering asks
 --     sums-enough                 the sums have a place for every coefficient of the product
---     sums-works                  the remainders of the sums are the product's coefficients modulo p
+--     sums-written                the remainders of the sums are the product's coefficients modulo p
 --     blank-room                  zeros, and how many are enough for lists of a length
 use Prim.Native.Nat.{ℕ, _+_, _-_, _*_, _^_, _≤_, _<_, min}
 use mathlib.Core.Path.{_≡_, refl, sym, ap, _∙_, fun-ext}
@@ -26,14 +26,14 @@ use Rattle.polynomials.specs.ListLaws.{coefficient-zeros, filled-at, filled-aft
 use Rattle.polynomials.specs.Places.{packed}
 use Rattle.polynomials.specs.PlaceLaws.{packed-agree, packed-four, packed-product, packed-zeros, packed-one-most, power-power}
 use Rattle.polynomials.specs.Blocks.{blocks, block, blockAt, blockList, spread, backwards}
-use Rattle.polynomials.specs.BlockLaws.{blocks-enough, blocks-most, blocks-few, blocks-some, block-operand, packed-blocks, coefficient-blocks, spread-block, spread-zero, column, gathered-most, gathered}
-use Rattle.packed.specs.Limits.{largestModulus, longestFactor}
-use Rattle.packed.specs.Settings.{base}
-use Rattle.packed.specs.Coefficients.{taken, taken-below}
-use Rattle.packed.specs.Bounds.{Bounds}
+use Rattle.polynomials.specs.BlockLaws.{blocks-enough, blocks-most, rounded-up-few, blocks-some, block-operand, packed-blocks, coefficient-blocks, spread-block, spread-zero, column, gathered-most, gathered}
+use Rattle.settings.specs.Limits.{largestModulus, longestFactor}
+use Rattle.settings.specs.Settings.{base}
+use Rattle.packed.specs.Taken.{taken, taken-below}
+use Rattle.settings.specs.Bounds.{Bounds}
 use Rattle.packed.specs.BatchLaws.{PackedWord, worth, columnWorth, columnsWorth, packed-word}
-use Rattle.packed.specs.Gathering.{Packing, packedBack, Working, Works, sumResidue, Blank, Room, Gathering, Sums, AddsColumns, Adding}
-use Rattle.packed.specs.declared.setting.Setting.{Setting}
+use Rattle.packed.specs.Gathering.{Packable, packedBack, ToMultiply, WritesProduct, sumResidue, Blank, Room, Gathering, Sums, AddsColumns, AddingColumns}
+use Rattle.settings.specs.declared.setting.Setting.{Setting}
 
 -- the blocks of a list, each packed in the base c
 abbrev blocksIn : Setting → ℕ → List ℕ → List ℕ
@@ -55,7 +55,7 @@ zero-word s b =
         let z : coefficient (replicate (s .k) 0) j ≡ 0 = coefficient-zeros [] (s .k) j in
         omega (arith, b .range .choice .p-low)
 
-module _ (s : Setting) (xs : List ℕ) (pre : Packing s xs) where
+module _ (s : Setting) (xs : List ℕ) (pre : Packable s xs) where
   some-k : 0 < s .k
   some-k = pre .bounded .range .choice .k-low
 
@@ -72,7 +72,7 @@ module _ (s : Setting) (xs : List ℕ) (pre : Packing s xs) where
   block-word i = packed-word s (block (s .k) xs i) (pre .bounded) (length-upto (s .k) (λ j. coefficient xs (i * s .k + j))) (block-operand (s .p) (s .k) xs i (pre .below) .below)
 
   pub block-few : (m : ℕ) → m ≡ blocks (s .k) (length xs) → m ≤ longestFactor
-  block-few m e = omega (arith, pre .size, blocks-few (s .k) (length xs) some-k)
+  block-few m e = omega (arith, pre .size, rounded-up-few (length xs) (s .k) some-k)
 
   -- a word of the list of blocks, and of the list backwards
   at-word : (i : ℕ) → coefficient (blocksIn s (base s) xs) i ≡ blockAt (base s) (s .k) xs i
@@ -140,7 +140,7 @@ module _ (s : Setting) (a b xs ys old : List ℕ) (pre : Gathering s a b xs ys o
         let whole : packed (1 ^ s .k) (product (blocksIn s 1 a) (blocksIn s 1 b)) ≡ packed 1 a * packed 1 b = packed-product (1 ^ s .k) (blocksIn s 1 a) (blocksIn s 1 b) ∙ rw (packed-blocks 1 (s .k) a m (enough s a (pre .left)), packed-blocks 1 (s .k) b n (enough s b (pre .right))) in
         rw (so-far .in-base 1, columns-at 1) (omega (arith, mul-le-mul (small s a (pre .left)) (small s b (pre .right))))
 
-    pub columns-adding : Adding s xs ys (z + 1 - n) (n - (z + 1)) count (z * s .k) sums
+    pub columns-adding : AddingColumns s xs ys (z + 1 - n) (n - (z + 1)) count (z * s .k) sums
     columns-adding =
         let k-high = pre .left .bounded .range .choice .k-high in
         let few-a : m ≤ longestFactor = block-few s a (pre .left) m refl in
@@ -173,7 +173,7 @@ module _ (s : Setting) (a b xs ys old : List ℕ) (pre : Gathering s a b xs ys o
 
 -- ---- before and after
 
-module _ (s : Setting) (a b out xs ys sums : List ℕ) (pre : Working s a b out) (room : Room s a b xs ys sums) (m n : ℕ) (em : m ≡ blocks (s .k) (length a)) (en : n ≡ blocks (s .k) (length b)) where
+module _ (s : Setting) (a b out xs ys sums : List ℕ) (pre : ToMultiply s a b out) (room : Room s a b xs ys sums) (m n : ℕ) (em : m ≡ blocks (s .k) (length a)) (en : n ≡ blocks (s .k) (length b)) where
   left-lie : (i : ℕ) → coefficient (filled m (blockAt (base s) (s .k) (taken (s .p) a)) xs) i ≡ coefficient (blocksIn s (base s) a) i
   left-lie i = go (decLt i m)
     where
@@ -211,15 +211,15 @@ module _ (s : Setting) (a b out xs ys sums : List ℕ) (pre : Working s a b out)
   pub sums-enough : length a + length b - 1 ≤ length sums
   sums-enough = omega (arith, enough s a (pre .left), enough s b (pre .right), room .all .room)
 
-  pub sums-works : {sums2 new : List ℕ} → Sums a b sums sums2 → new ≡ filled (length a + length b - 1) (sumResidue (s .p) sums2) out → Works s a b out new
-  sums-works {sums2} h e = e ∙ ap (λ (f : ℕ → ℕ). filled (length a + length b - 1) f out) (fun-ext (λ j. rw (h .coefficient-of j)))
+  pub sums-written : {sums2 new : List ℕ} → Sums a b sums sums2 → new ≡ filled (length a + length b - 1) (sumResidue (s .p) sums2) out → WritesProduct s a b out new
+  sums-written {sums2} h e = e ∙ ap (λ (f : ℕ → ℕ). filled (length a + length b - 1) f out) (fun-ext (λ j. rw (h .coefficient-of j)))
 
-pub blank-room : (s : Setting) (a b out : List ℕ) → Working s a b out → (x y z : ℕ) → length a ≤ x → length b + 6 ≤ y → length a + length b + 40 ≤ z
+pub blank-room : (s : Setting) (a b out : List ℕ) → ToMultiply s a b out → (x y z : ℕ) → length a ≤ x → length b + 6 ≤ y → length a + length b + 40 ≤ z
     → Room s a b (replicate x 0) (replicate y 0) (replicate z 0)
 blank-room s a b out pre x y z hx hy hz =
     let k-high = pre .left .bounded .range .choice .k-high in
-    let few-a = blocks-few (s .k) (length a) (some-k s a (pre .left)) in
-    let few-b = blocks-few (s .k) (length b) (some-k s b (pre .right)) in
+    let few-a = rounded-up-few (length a) (s .k) (some-k s a (pre .left)) in
+    let few-b = rounded-up-few (length b) (s .k) (some-k s b (pre .right)) in
     record {
       left = blank x (omega arith);
       right = blank y (omega arith);

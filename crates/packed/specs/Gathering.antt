@@ -1,9 +1,11 @@
--- What the workers of a product ask of each other. Definitions only.
---     Packing s xs                       a list whose blocks can be packed
+-- What the workers of a product ask of each other. Definitions only. What they do to the sums is told by what the list of sums is worth in every base
+-- b, as BatchLaws says: fields that are added from place at on are worth b^at times themselves, a block is a digit in the base b^k, and the whole
+-- gathering is one product of two numbers.
+--     shortFactor                        the longest list that is worked in short arrays
+--     Packable s xs                      a list whose blocks can be packed
 --     packedBack s xs count r            word r of its blocks backwards: three words of empty blocks, then the highest of count blocks
---     Working s a b out                  two lists and a list lent for their product: nothing is refused and there is something to write
---     productResidue p a b j             coefficient j of the product modulo p
---     Works s a b old new                these are written, and what stood after them stays
+--     ToMultiply s a b out               two lists and a list lent for their product: nothing is refused and there is something to write
+--     WritesProduct s a b old new        these are written, and what stood after them stays
 --     Blank ws m                         words that are zero, and at least m of them
 --     Room s a b xs ys sums              blank lists, long enough for the blocks and the sums of a and b
 --     Gathering s a b xs ys sums         the blocks of a lie in xs and those of b backwards in ys; the sums are blank
@@ -16,7 +18,7 @@
 --                                        four words, each k places above the one before: room for their fields, and that they are added
 --     AddsColumns s xs ys i j count at old new
 --                                        four columns of products of words are, told the same way
---     Adding s xs ys i j count at sums
+--     AddingColumns s xs ys i j count at sums
 --                                        words to be multiplied, and sums with room for four columns of them from place at on
 use Prim.Native.Nat.{ℕ, suc, _+_, _-_, _*_, _%_, _^_, _≤_, _<_}
 use mathlib.Core.Path.{_≡_}
@@ -26,14 +28,18 @@ use Rattle.polynomials.specs.Indices.{filled}
 use Rattle.polynomials.specs.Lists.{coefficient, productAt, Below}
 use Rattle.polynomials.specs.Places.{packed}
 use Rattle.polynomials.specs.Blocks.{blocks, blockAt, blockList, dot, spread, backwards}
-use Rattle.packed.specs.Limits.{mostCoefficients, wordBits, longestFactor}
-use Rattle.packed.specs.Settings.{base}
-use Rattle.packed.specs.Coefficients.{taken}
-use Rattle.packed.specs.Bounds.{Bounds}
+use Rattle.settings.specs.Limits.{mostCoefficients, wordBits, longestFactor}
+use Rattle.settings.specs.Settings.{base}
+use Rattle.packed.specs.Taken.{taken}
+use Rattle.settings.specs.Bounds.{Bounds}
+use Rattle.packed.specs.Products.{productResidue}
 use Rattle.packed.specs.BatchLaws.{PackedWords, columnsWorth}
-use Rattle.packed.specs.declared.setting.Setting.{Setting}
+use Rattle.settings.specs.declared.setting.Setting.{Setting}
 
-pub record Packing (s : Setting) (xs : List ℕ) : Type 0 where
+abbrev pub shortFactor : ℕ
+shortFactor = 256
+
+pub record Packable (s : Setting) (xs : List ℕ) : Type 0 where
   pub bounded : Bounds s
   pub below : Below (s .p) xs
   pub size : length xs ≤ longestFactor
@@ -41,21 +47,18 @@ pub record Packing (s : Setting) (xs : List ℕ) : Type 0 where
 abbrev pub packedBack : Setting → List ℕ → ℕ → ℕ → ℕ
 packedBack s xs count r = blockAt (base s) (s .k) (taken (s .p) xs) (count + 2 - r)
 
-pub record Working (s : Setting) (a b out : List ℕ) : Type 0 where
-  pub left : Packing s a
-  pub right : Packing s b
+pub record ToMultiply (s : Setting) (a b out : List ℕ) : Type 0 where
+  pub left : Packable s a
+  pub right : Packable s b
   pub left-some : 0 < length a
   pub right-some : 0 < length b
   pub room : length a + length b ≤ suc (length out)
 
-abbrev pub productResidue : ℕ → List ℕ → List ℕ → ℕ → ℕ
-productResidue p a b j = productAt a b j % p
-
 abbrev pub sumResidue : ℕ → List ℕ → ℕ → ℕ
 sumResidue p sums j = coefficient sums j % p
 
-abbrev pub Works : Setting → List ℕ → List ℕ → List ℕ → List ℕ → Type 0
-Works s a b old new = new ≡ filled (length a + length b - 1) (productResidue (s .p) a b) old
+abbrev pub WritesProduct : Setting → List ℕ → List ℕ → List ℕ → List ℕ → Type 0
+WritesProduct s a b old new = new ≡ filled (length a + length b - 1) (productResidue (s .p) a b) old
 
 pub record Blank (ws : List ℕ) (m : ℕ) : Type 0 where
   pub zeros : (i : ℕ) → coefficient ws i ≡ 0
@@ -67,8 +70,8 @@ pub record Room (s : Setting) (a b xs ys sums : List ℕ) : Type 0 where
   pub all : Blank sums ((blocks (s .k) (length a) + blocks (s .k) (length b) + 3) * s .k)
 
 pub record Gathering (s : Setting) (a b xs ys sums : List ℕ) : Type 0 where
-  pub left : Packing s a
-  pub right : Packing s b
+  pub left : Packable s a
+  pub right : Packable s b
   pub left-some : 0 < length a
   pub right-some : 0 < length b
   pub left-words : (i : ℕ) → coefficient xs i ≡ coefficient (blockList (base s) (s .k) (blocks (s .k) (length a)) a) i
@@ -117,7 +120,7 @@ pub record AddsColumns (s : Setting) (xs ys : List ℕ) (i j count at : ℕ) (ol
   pub size : length new ≡ length old
   pub in-base : (b : ℕ) → packed b new ≡ packed b old + columnsWorth s b xs ys i j count at
 
-pub record Adding (s : Setting) (xs ys : List ℕ) (i j count at : ℕ) (sums : List ℕ) : Type 0 where
+pub record AddingColumns (s : Setting) (xs ys : List ℕ) (i j count at : ℕ) (sums : List ℕ) : Type 0 where
   pub bounded : Bounds s
   pub left : PackedWords s xs
   pub right : PackedWords s ys

@@ -10,9 +10,8 @@ use mathlib.Core.List.{List}
 use native.Mathlib.Nat.{mul-le-mul-left}
 use native.Mathlib.Omega.{arith}
 use lib.ListN.{length, replicate, length-replicate}
-use borrow.Author.Tests.{le-ltb, lt-leb}
-use Rattle.polynomials.specs.Indices.{first}
-use Rattle.polynomials.specs.IndexLaws.{length-upto, upto-at, first-none}
+use borrow.Author.Tests.{lt-leb}
+use Rattle.polynomials.specs.IndexLaws.{length-upto, upto-at, some-none}
 use Rattle.polynomials.specs.Lists.{coefficient, scaled, productLength, product, Below, Operand}
 use Rattle.polynomials.specs.ListLaws.{coefficient-scaled}
 use Rattle.polynomials.specs.BoundLaws.{product-most}
@@ -20,12 +19,13 @@ use Rattle.polynomials.specs.Places.{packed}
 use Rattle.polynomials.specs.PlaceLaws.{packed-scaled, packed-product}
 use Rattle.polynomials.specs.Blocks.{blocks, block, blockAt, pairsUpto, dot}
 use Rattle.polynomials.specs.BlockLaws.{block-operand, length-pairs, pairs-operands, words-of-pairs}
-use Rattle.packed.specs.Limits.{wordBits}
-use Rattle.packed.specs.Settings.{base}
-use Rattle.packed.specs.Coefficients.{tooLarge, firstBad, taken-below}
-use Rattle.packed.specs.Bounds.{Bounds, batch-sum}
-use Rattle.packed.specs.Overflow.{batchSums, blockCause, overflowCause}
-use Rattle.packed.specs.declared.setting.Setting.{Setting}
+use Rattle.settings.specs.Limits.{wordBits}
+use Rattle.settings.specs.Settings.{base}
+use Rattle.settings.specs.Coefficients.{tooLarge}
+use Rattle.packed.specs.Taken.{taken-below}
+use Rattle.settings.specs.Bounds.{Bounds, pairs-fit}
+use Rattle.packed.specs.Overflow.{runSums, blockCause, overflowCause}
+use Rattle.settings.specs.declared.setting.Setting.{Setting}
 
 abbrev pub largest : Setting → List ℕ
 largest s = replicate (s .k) (s .p - 1)
@@ -59,18 +59,18 @@ module _ (s : Setting) (bounded : Bounds s) (a b : List ℕ) (ha : Below (s .p) 
       let f : ℕ → List ℕ = λ r. block (s .k) a (i + r) in
       let g : ℕ → List ℕ = λ r. block (s .k) b (z - (i + r)) in
       rw (← words-of-pairs (base s) m f g)
-      (batch-sum s bounded (pairsUpto m f g) (pairs-operands (s .p) (s .k) m f g (λ r. block-operand (s .p) (s .k) a (i + r) ha) (λ r. block-operand (s .p) (s .k) b (z - (i + r)) hb)) (rw length-pairs few))
+      (pairs-fit s bounded (pairsUpto m f g) (pairs-operands (s .p) (s .k) m f g (λ r. block-operand (s .p) (s .k) a (i + r) ha) (λ r. block-operand (s .p) (s .k) b (z - (i + r)) hb)) (rw length-pairs few))
 
   abbrev sumFrom : ℕ → ℕ → ℕ
   sumFrom z i = dot (blockAt (base s) (s .k) a) (λ i. blockAt (base s) (s .k) b (z - i)) i i (min (s .n) (suc z - i))
 
   abbrev sums : ℕ → List ℕ
-  sums z = batchSums (s .n) (suc z) (blockAt (base s) (s .k) a) (λ i. blockAt (base s) (s .k) b (z - i))
+  sums z = runSums (s .n) (suc z) (blockAt (base s) (s .k) a) (λ i. blockAt (base s) (s .k) b (z - i))
 
   block-fits : (z : ℕ) → blockCause s a b z ≡ false
   block-fits z =
       rw (taken-below (s .p) a ha, taken-below (s .p) b hb)
-      (le-ltb (firstBad (2 ^ wordBits) (sums z)) (length (sums z)) (first-none (tooLarge (2 ^ wordBits) (sums z)) (length (sums z)) .1 (λ i l. lt-leb (2 ^ wordBits) (coefficient (sums z) i) (at i (rw length-upto at l)))))
+      (some-none (tooLarge (2 ^ wordBits) (sums z)) (length (sums z)) .1 (λ i l. lt-leb (2 ^ wordBits) (coefficient (sums z) i) (at i (rw length-upto at l))))
     where
       at : (i : ℕ) → i < suc z → coefficient (sums z) i < 2 ^ 64
       at i l = rw (upto-at (suc z) (sumFrom z) i l) (run-fits z i (min (s .n) (suc z - i)) (omega arith))
@@ -79,4 +79,4 @@ module _ (s : Setting) (bounded : Bounds s) (a b : List ℕ) (ha : Below (s .p) 
   unfolding overflowCause
   never-overflows =
       let m : ℕ = productLength (blocks (s .k) (length a)) (blocks (s .k) (length b)) in
-      le-ltb (first (blockCause s a b) m 0) m (first-none (blockCause s a b) m .1 (λ z l. block-fits z))
+      some-none (blockCause s a b) m .1 (λ z l. block-fits z)

@@ -2,6 +2,9 @@
 --     shapeCause k xs             9 Shape: not exactly k coefficients
 --     wordCause s w               11 Word: a word >= 2^((2k-1)t)
 --     wordChecks s w              the setting's checks, then 11
+--     firstBadWord s ws           the index of the first word that meets 11, and the length where there is none
+--     wordsCheck s ws             11 Word, with that place; wordsChecks s ws, the setting's checks, then this
+--     ChecksWord, ChecksWords     the promises of check_word and check_words: these checks, of a word and of a list
 --     placesChecks s w len        these, then 10: a list of len elements is lent for an element a place
 --     packAnswer s xs             the setting's checks, 9, 8; then the word, the sum of a_i q^i
 --     Packs s xs r                the promise of pack
@@ -11,7 +14,7 @@
 --     reducedWord s w             the word whose field i is m_i, the old field modulo p
 --     reduceAnswer s w            the setting's checks, 11; then that word
 --     Reduces s w r               the promise of reduce
---     pack-once, unpack-once, shifted-residues-once, reduce-once
+--     check-word-once, check-words-once, pack-once, unpack-once, shifted-residues-once, reduce-once
 --                                 each promise allows one answer, and one list, only
 use Prim.Native.Nat.{ℕ, _^_}
 use mathlib.Core.Path.{_≡_}
@@ -19,15 +22,18 @@ use mathlib.Core.Bool.{Bool, not}
 use mathlib.Core.List.{List}
 use lib.Dec.{leb, eqb}
 use lib.ListN.{length}
-use Rattle.polynomials.specs.Indices.{upto}
+use Rattle.polynomials.specs.Indices.{upto, first, some}
+use Rattle.polynomials.specs.Lists.{coefficient}
 use Rattle.polynomials.specs.Places.{packed, fields, shifted, reduced}
-use Rattle.packed.specs.Answers.{Answer, answered, Verdict, refuse, _andThen_}
-use Rattle.packed.specs.SharedAnswers.{packedSays, packed-once, shortCause, Writes, writes-once}
-use Rattle.packed.specs.Settings.{settingChecks, base, places, spanOf}
-use Rattle.packed.specs.Coefficients.{taken, coefficientCheck}
-use Rattle.packed.specs.declared.setting.Setting.{Setting}
-use Rattle.packed.specs.declared.answers.Packed.{Packed}
-use Rattle.packed.specs.declared.answers.Wrote.{Wrote}
+use Rattle.settings.specs.Answers.{Answer, answered, Verdict, refuse, _andThen_}
+use Rattle.settings.specs.SharedAnswers.{packedSays, packed-once, shortCause, Writes, writes-once}
+use Rattle.settings.specs.Settings.{settingChecks, base, places, spanOf, checkedSays, checked-once}
+use Rattle.settings.specs.Coefficients.{coefficientCheck}
+use Rattle.packed.specs.Taken.{taken}
+use Rattle.settings.specs.declared.setting.Setting.{Setting}
+use Rattle.settings.specs.declared.setting.Checked.{Checked}
+use Rattle.settings.specs.declared.answers.Packed.{Packed}
+use Rattle.settings.specs.declared.answers.Wrote.{Wrote}
 
 abbrev pub shapeCause : ℕ → List ℕ → Bool
 shapeCause k xs = not (eqb (length xs) k)
@@ -38,8 +44,34 @@ wordCause s w = leb (2 ^ spanOf s) w
 unfoldable pub wordChecks : Setting → ℕ → Verdict
 wordChecks s w = settingChecks s andThen refuse (wordCause s w) 11 0
 
+abbrev pub badWord : Setting → List ℕ → ℕ → Bool
+badWord s ws i = wordCause s (coefficient ws i)
+
+abbrev pub firstBadWord : Setting → List ℕ → ℕ
+firstBadWord s ws = first (badWord s ws) (length ws) 0
+
+abbrev pub wordsCheck : Setting → List ℕ → Verdict
+wordsCheck s ws = refuse (some (badWord s ws) (length ws)) 11 (firstBadWord s ws)
+
+unfoldable pub wordsChecks : Setting → List ℕ → Verdict
+wordsChecks s ws = settingChecks s andThen wordsCheck s ws
+
 unfoldable pub placesChecks : Setting → ℕ → ℕ → Verdict
 placesChecks s w len = wordChecks s w andThen refuse (shortCause (places s) len) 10 0
+
+-- ---- 11 alone
+
+abbrev pub ChecksWord : Setting → ℕ → Checked → Type 0
+ChecksWord s w r = checkedSays r ≡ wordChecks s w
+
+pub check-word-once : (s : Setting) (w : ℕ) (a b : Checked) → ChecksWord s w a → ChecksWord s w b → a ≡ b
+check-word-once s w a b = checked-once a b (wordChecks s w)
+
+abbrev pub ChecksWords : Setting → List ℕ → Checked → Type 0
+ChecksWords s ws r = checkedSays r ≡ wordsChecks s ws
+
+pub check-words-once : (s : Setting) (ws : List ℕ) (a b : Checked) → ChecksWords s ws a → ChecksWords s ws b → a ≡ b
+check-words-once s ws a b = checked-once a b (wordsChecks s ws)
 
 -- ---- pack
 

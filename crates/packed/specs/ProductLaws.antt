@@ -6,31 +6,30 @@
 --     product-some          a product that has a coefficient has two factors that do
 --     product-written       a list filled with the sums modulo p is what product promises
 --     product-checks-same   accepted settings with one p refuse the same lists, with the same number and place
---     same-product          so two accepted settings with one p give one answer and one list
+--     product-by-modulus    so two accepted settings with one p give one answer and one list
 use Prim.Native.Nat.{ℕ, zero, suc, _+_, _-_, _≤_, _<_}
 use mathlib.Core.Path.{_≡_, refl, sym, ap, _∙_, fun-ext}
-use mathlib.Mathlib.Data.Bool.Basic.{or-eq-false-eq-eq-false-and-eq-false}
 use mathlib.Core.List.{List}
 use native.Mathlib.Omega.{arith}
 use lib.Dec.{ltb}
 use lib.ListN.{length}
 use borrow.Author.Tests.{ltb-false}
+use Rattle.polynomials.specs.Tests.{neither}
 use Rattle.polynomials.specs.Indices.{filled}
 use Rattle.polynomials.specs.Lists.{coefficient, productLength, product, residues, Below}
 use Rattle.polynomials.specs.ListLaws.{length-residues, length-product, coefficient-residues, coefficient-product}
-use Rattle.packed.specs.Limits.{longestFactor}
-use Rattle.packed.specs.Answers.{Verdict, answered, fine, refused}
-use Rattle.packed.specs.AnswerLaws.{passed, passed-first, passed-last}
-use Rattle.packed.specs.SharedAnswers.{shortCause, writes-once, writes-list}
-use Rattle.packed.specs.Settings.{settingChecks}
-use Rattle.packed.specs.Coefficients.{coefficientsCheck, coefficients-check}
-use Rattle.packed.specs.Bounds.{Bounds, bounds}
+use Rattle.settings.specs.Limits.{longestFactor}
+use Rattle.settings.specs.Answers.{Verdict, answered, fine, refused}
+use Rattle.settings.specs.AnswerLaws.{passed, passed-first, passed-last}
+use Rattle.settings.specs.SharedAnswers.{shortCause, writes-once, writes-list}
+use Rattle.settings.specs.Settings.{settingChecks}
+use Rattle.settings.specs.Coefficients.{coefficientsCheck, coefficients-check}
+use Rattle.settings.specs.Bounds.{Bounds, bounds}
 use Rattle.packed.specs.OverflowLaws.{never-overflows}
-use Rattle.packed.specs.Products.{factorsCause, factorChecks, productChecks, Multiplies}
-use Rattle.packed.specs.Gathering.{productResidue}
-use Rattle.packed.specs.declared.setting.Setting.{Setting}
-use Rattle.packed.specs.declared.answers.Wrote.{Wrote}
-use Rattle.packed.specs.declared.answers.Wrote.the-variants.{Count}
+use Rattle.packed.specs.Products.{factorsCause, factorChecks, productChecks, Multiplies, productResidue}
+use Rattle.settings.specs.declared.setting.Setting.{Setting}
+use Rattle.settings.specs.declared.answers.Wrote.{Wrote}
+use Rattle.settings.specs.declared.answers.Wrote.the-variants.{Count}
 
 pub record Factors (s : Setting) (a b : List ℕ) (len : ℕ) : Type 0 where
   pub bounded : Bounds s
@@ -46,7 +45,7 @@ factors-checked s a b len e =
     let first = passed-first (settingChecks s) _ tt e in
     let bounded = bounds s (first .0) in
     let shape = passed (factorsCause (length a) (length b)) 9 0 _ tt (first .1) in
-    let sizes = or-eq-false-eq-eq-false-and-eq-false (ltb longestFactor (length a)) (ltb longestFactor (length b)) .0 (shape .0) in
+    let sizes = neither (ltb longestFactor (length a)) (ltb longestFactor (length b)) (shape .0) in
     let third = passed-first (coefficientsCheck (s .p) a b) _ tt (shape .1) in
     let below = coefficients-check (s .p) a b (omega (arith, bounded .range .choice .p-low)) .0 (third .0) in
     record {
@@ -96,7 +95,7 @@ product-checks-same s u a b len hs hu e = go (factorChecks s a b len) refl
     go (answered w) h = product-fine s a b len h ∙ sym (product-fine u a b len (sym same ∙ h))
     go (refused number place) h = product-refused s a b len number place h ∙ sym (product-refused u a b len number place (sym same ∙ h))
 
-pub same-product : (s u : Setting) (a b old : List ℕ) (r v : Wrote) (x y : List ℕ) → settingChecks s ≡ fine → settingChecks u ≡ fine → s .p ≡ u .p → Multiplies s a b old r x → Multiplies u a b old v y
+pub product-by-modulus : (s u : Setting) (a b old : List ℕ) (r v : Wrote) (x y : List ℕ) → settingChecks s ≡ fine → settingChecks u ≡ fine → s .p ≡ u .p → Multiplies s a b old r x → Multiplies u a b old v y
     → (r ≡ v) × (x ≡ y)
-same-product s u a b old r v x y hs hu e hr hv =
+product-by-modulus s u a b old r v x y hs hu e hr hv =
     writes-once (productChecks u a b (length old)) (residues (u .p) (product a b)) old r v x y (rw (product-checks-same s u a b (length old) hs hu e, e) at hr) hv

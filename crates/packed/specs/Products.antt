@@ -2,23 +2,24 @@
 --     factorsCause m n              9 Shape: one of the lists, of m and n coefficients, has more than 4,096
 --     factorChecks s a b len        the setting's checks, 9, 8, 10: a list of len elements is lent for the la + lb - 1 coefficients, or none
 --     productChecks s a b len       these, then 18
---     Multiplies s a b old r after  the promise of product: coefficient j is the sum of a_i b_(j-i), modulo p
+--     productResidue p a b j        that coefficient: the sum of a_i b_(j-i), modulo p
+--     Multiplies s a b old r after  the promise of product: the coefficients of the product modulo p
 --     product-once                  it allows one answer and one list only
-use Prim.Native.Nat.{ℕ}
+use Prim.Native.Nat.{ℕ, _%_}
 use mathlib.Core.Path.{_≡_}
 use mathlib.Core.Bool.{Bool, _||_}
 use mathlib.Core.List.{List}
 use lib.Dec.{ltb}
 use lib.ListN.{length}
-use Rattle.polynomials.specs.Lists.{productLength, product, residues}
-use Rattle.packed.specs.Limits.{longestFactor}
-use Rattle.packed.specs.Answers.{Verdict, refuse, _andThen_}
-use Rattle.packed.specs.SharedAnswers.{shortCause, Writes, writes-once}
-use Rattle.packed.specs.Settings.{settingChecks}
-use Rattle.packed.specs.Coefficients.{coefficientsCheck}
+use Rattle.polynomials.specs.Lists.{productLength, productAt, product, residues}
+use Rattle.settings.specs.Limits.{longestFactor}
+use Rattle.settings.specs.Answers.{Verdict, refuse, _andThen_}
+use Rattle.settings.specs.SharedAnswers.{shortCause, Writes, writes-once}
+use Rattle.settings.specs.Settings.{settingChecks}
+use Rattle.settings.specs.Coefficients.{coefficientsCheck}
 use Rattle.packed.specs.Overflow.{overflowCause}
-use Rattle.packed.specs.declared.setting.Setting.{Setting}
-use Rattle.packed.specs.declared.answers.Wrote.{Wrote}
+use Rattle.settings.specs.declared.setting.Setting.{Setting}
+use Rattle.settings.specs.declared.answers.Wrote.{Wrote}
 
 abbrev pub factorsCause : ℕ → ℕ → Bool
 factorsCause m n = ltb longestFactor m || ltb longestFactor n
@@ -32,6 +33,9 @@ factorChecks s a b len =
 
 unfoldable pub productChecks : Setting → List ℕ → List ℕ → ℕ → Verdict
 productChecks s a b len = factorChecks s a b len andThen refuse (overflowCause s a b) 18 0
+
+abbrev pub productResidue : ℕ → List ℕ → List ℕ → ℕ → ℕ
+productResidue p a b j = productAt a b j % p
 
 abbrev pub Multiplies : Setting → List ℕ → List ℕ → List ℕ → Wrote → List ℕ → Type 0
 Multiplies s a b old r after = Writes (productChecks s a b (length old)) (residues (s .p) (product a b)) old r after

@@ -15,13 +15,13 @@ use Rattle.polynomials.specs.IndexLaws.{length-upto, upto-at}
 use Rattle.polynomials.specs.Lists.{coefficient}
 use Rattle.polynomials.specs.Places.{field, shifted, reduced, minus}
 use Rattle.polynomials.specs.ReductionLaws.{field-reduced, reduced-shifted, reduced-last, reduced-divides}
-use Rattle.packed.specs.AnswerLaws.{passed-first}
-use Rattle.packed.specs.Settings.{base, places}
+use Rattle.settings.specs.AnswerLaws.{passed-first}
+use Rattle.settings.specs.Settings.{base, places}
 use Rattle.packed.specs.Places.{wordChecks, placesChecks, ShiftedResidues, reducedWord, reduceAnswer, Reduces}
 use Rattle.packed.specs.WordLaws.{WordFits, word-checked}
-use Rattle.packed.specs.declared.setting.Setting.{Setting}
-use Rattle.packed.specs.declared.answers.Packed.the-variants.{Word}
-use Rattle.packed.specs.declared.answers.Wrote.the-variants.{Count}
+use Rattle.settings.specs.declared.setting.Setting.{Setting}
+use Rattle.settings.specs.declared.answers.Packed.the-variants.{Word}
+use Rattle.settings.specs.declared.answers.Wrote.the-variants.{Count}
 
 pub reduce-checked : (s : Setting) (w v : ℕ) → Reduces s w (Word v) → WordFits s w × (v ≡ reducedWord s w)
 unfolding reduceAnswer

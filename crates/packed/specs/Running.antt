@@ -10,10 +10,10 @@
 --     afterPairs s u cs             one pair after the other
 --     fedPairs s xs ys              the pairs of two flat lists, k coefficients per polynomial, as packing takes them
 --     pairsCause k m n              9 Shape: the lengths m and n of the flat lists differ, or are no multiple of k
---     fullCause total pairs         13 Full: the total would pass 1,000,000
+--     recordFullCause total pairs   13 Full: the total would pass 1,000,000
 --     pairChecks r xs ys            12, 9, 13, 8; feedChecks, these, then 18
 --     closeChecks r len             12, 10: a list of len elements is lent for the 2k-1 coefficients
---     takenSays, closedSays         the numbers that each case of an answer stands for; takenOf, closedOf, the way back, as taken-back, closed-back say
+--     countedSays, closedSays       the numbers that each case of an answer stands for; countedOf, closedOf, the way back, as counted-back, closed-back say
 --     keptBy v new old              the record handed back: as it was on a refusal, else the new one
 --     freshSum, recordOf s u        in a fresh record all but the setting is zero; the record of a setting and a sum
 --     Freshens, Feeds, Closes       the promises of fresh, feed, close; fresh-once, feed-once, close-once: each allows one result only
@@ -23,27 +23,27 @@ use mathlib.Core.Bool.{Bool, not, _||_}
 use mathlib.Core.List.{List, [], _∷_}
 use lib.Dec.{ltb, eqb}
 use lib.ListN.{length, replicate}
-use Rattle.polynomials.specs.Indices.{pick, upto, filled, exceeds}
+use Rattle.polynomials.specs.Indices.{pick, upto, filled, exceeds, roundedUp}
 use Rattle.polynomials.specs.Lists.{coefficient, Below, Pair, batchMost}
 use Rattle.polynomials.specs.Places.{packed, field}
-use Rattle.polynomials.specs.Blocks.{blocks}
 use Rattle.polynomials.specs.Pairs.{pairsOf}
-use Rattle.packed.specs.Limits.{mostPairs, residuePlaces}
-use Rattle.packed.specs.Answers.{Answer, answered, refused, Verdict, fine, refuse, refuses, _andThen_, leftBy}
-use Rattle.packed.specs.AnswerLaws.{once}
-use Rattle.packed.specs.SharedAnswers.{shortCause}
-use Rattle.packed.specs.Settings.{settingChecks, base, places, spanOf, checkedSays, check-once}
-use Rattle.packed.specs.Coefficients.{taken, coefficientsCheck}
+use Rattle.settings.specs.Limits.{mostPairs, residuePlaces}
+use Rattle.settings.specs.Answers.{Answer, answered, refused, Verdict, fine, refuse, refuses, _andThen_, leftBy}
+use Rattle.settings.specs.AnswerLaws.{once}
+use Rattle.settings.specs.SharedAnswers.{shortCause}
+use Rattle.settings.specs.Settings.{settingChecks, base, places, spanOf, checkedSays, check-once}
+use Rattle.settings.specs.Coefficients.{coefficientsCheck}
+use Rattle.packed.specs.Taken.{taken}
 use Rattle.packed.specs.Places.{wordCause}
 use Rattle.packed.specs.Overflow.{feedOverflow}
-use Rattle.packed.specs.declared.setting.Setting.{Setting}
-use Rattle.packed.specs.declared.setting.Checked.{Checked}
+use Rattle.settings.specs.declared.setting.Setting.{Setting}
+use Rattle.settings.specs.declared.setting.Checked.{Checked}
 use Rattle.packed.specs.declared.running.Sum.{Sum}
 use Rattle.packed.specs.declared.running.Record.{Record}
 use Rattle.packed.specs.declared.running.Begun.{Begun}
 use Rattle.packed.specs.declared.running.Fed.{Fed}
-use Rattle.packed.specs.declared.running.Taken.{Taken}
-use Rattle.packed.specs.declared.running.Taken.the-variants as inTaken
+use Rattle.packed.specs.declared.running.Counted.{Counted}
+use Rattle.packed.specs.declared.running.Counted.the-variants as inCounted
 use Rattle.packed.specs.declared.running.Closed.{Closed}
 use Rattle.packed.specs.declared.running.Closed.the-variants as inClosed
 
@@ -109,14 +109,14 @@ fedPairs s xs ys = pairsOf (s .k) (taken (s .p) xs) (taken (s .p) ys)
 abbrev pub pairsCause : ℕ → ℕ → ℕ → Bool
 pairsCause k m n = not (eqb m n) || not (eqb (m % k) 0)
 
-abbrev pub fullCause : ℕ → ℕ → Bool
-fullCause total pairs = ltb mostPairs (total + pairs)
+abbrev pub recordFullCause : ℕ → ℕ → Bool
+recordFullCause total pairs = ltb mostPairs (total + pairs)
 
 unfoldable pub pairChecks : Record → List ℕ → List ℕ → Verdict
 pairChecks r xs ys =
     refuse (recordCause r) 12 0
     andThen refuse (pairsCause (r .setting .k) (length xs) (length ys)) 9 0
-    andThen refuse (fullCause (r .sum .total) (length xs / r .setting .k)) 13 0
+    andThen refuse (recordFullCause (r .sum .total) (length xs / r .setting .k)) 13 0
     andThen coefficientsCheck (r .setting .p) xs ys
 
 unfoldable pub feedChecks : Record → List ℕ → List ℕ → Verdict
@@ -127,17 +127,17 @@ closeChecks r len = refuse (recordCause r) 12 0 andThen refuse (shortCause (plac
 
 -- ---- answers
 
-abbrev pub takenSays : Taken → Answer ℕ
-takenSays (inTaken.Pairs m) = answered m
-takenSays (inTaken.Refused r) = refused (r .number) (r .place)
+abbrev pub countedSays : Counted → Answer ℕ
+countedSays (inCounted.Pairs m) = answered m
+countedSays (inCounted.Refused r) = refused (r .number) (r .place)
 
-abbrev pub takenOf : Answer ℕ → Taken
-takenOf (answered m) = inTaken.Pairs m
-takenOf (refused number place) = inTaken.Refused (record { number = number; place = place })
+abbrev pub countedOf : Answer ℕ → Counted
+countedOf (answered m) = inCounted.Pairs m
+countedOf (refused number place) = inCounted.Refused (record { number = number; place = place })
 
-pub taken-back : (r : Taken) → takenOf (takenSays r) ≡ r
-taken-back (inTaken.Pairs m) = refl
-taken-back (inTaken.Refused r) = refl
+pub counted-back : (r : Counted) → countedOf (countedSays r) ≡ r
+counted-back (inCounted.Pairs m) = refl
+counted-back (inCounted.Refused r) = refl
 
 abbrev pub closedSays : Closed → Answer ℕ
 closedSays (inClosed.Reductions m) = answered m
@@ -176,20 +176,20 @@ fresh-once s a b ha hb = ap (λ (r : Record). made r (a .answer)) (ha .1 ∙ sym
 
 abbrev pub Feeds : Record → List ℕ → List ℕ → Fed → Type 0
 Feeds r xs ys f =
-    (takenSays (f .answer) ≡ (feedChecks r xs ys andThen answered (length xs / r .setting .k)))
+    (countedSays (f .answer) ≡ (feedChecks r xs ys andThen answered (length xs / r .setting .k)))
     × (f .running ≡ keptBy (feedChecks r xs ys) (recordOf (r .setting) (afterPairs (r .setting) (r .sum) (fedPairs (r .setting) xs ys))) r)
 
 pub feed-once : (r : Record) (xs ys : List ℕ) (a b : Fed) → Feeds r xs ys a → Feeds r xs ys b → a ≡ b
-feed-once r xs ys a b ha hb = ap (λ (r : Record). made r (a .answer)) (ha .1 ∙ sym (hb .1)) ∙ ap (made (b .running)) (once takenSays takenOf taken-back (a .answer) (b .answer) _ (ha .0) (hb .0))
+feed-once r xs ys a b ha hb = ap (λ (r : Record). made r (a .answer)) (ha .1 ∙ sym (hb .1)) ∙ ap (made (b .running)) (once countedSays countedOf counted-back (a .answer) (b .answer) _ (ha .0) (hb .0))
   where
-    made : Record → Taken → Fed
+    made : Record → Counted → Fed
     made r c = record { running = r; answer = c }
 
 -- ---- close
 
 abbrev pub Closes : Record → List ℕ → Closed → List ℕ → Type 0
 Closes r old a after =
-    (closedSays a ≡ (closeChecks r (length old) andThen answered (blocks (r .setting .n) (r .sum .total))))
+    (closedSays a ≡ (closeChecks r (length old) andThen answered (roundedUp (r .sum .total) (r .setting .n))))
     × (after ≡ leftBy (closeChecks r (length old)) (upto (places (r .setting)) (closingAt (r .setting) (r .sum))) old)
 
 pub close-once : (r : Record) (old : List ℕ) (a b : Closed) (x y : List ℕ) → Closes r old a x → Closes r old b y → (a ≡ b) × (x ≡ y)

@@ -2,7 +2,7 @@
 --     coherent-is          12 is given exactly where the record is not coherent
 --     residue-within       coherent residues are at most residueMost
 --     field-more           adding the products of pairs, up to n in the batch, adds their coefficients field by field
---     word-room            and stays below 2^64
+--     open-room            and stays below 2^64
 --     after-one            one pair, where it fills the batch and where it does not
 --     withPairs            pairs added up in the word, before any split
 --     batch-after          pairs that the open batch takes, one after the other, are added up in the word, and at n pairs it is split
@@ -14,7 +14,6 @@ use mathlib.Core.Path.{_≡_, refl, sym, ap, _∙_}
 use mathlib.Core.Bool.{Bool, true, false, _||_}
 use mathlib.Core.List.{List, [], _∷_, _++_}
 use mathlib.Core.Logic.{_↔_}
-use mathlib.Mathlib.Data.Bool.Basic.{or-eq-false-eq-eq-false-and-eq-false}
 use native.Mathlib.Nat.{le-trans, lt-of-le-of-lt, add-zero, mod-lt, zero-div, zero-mod, add-mul}
 use native.Mathlib.Decide.{decLt}
 use native.Mathlib.Omega.{arith}
@@ -22,6 +21,7 @@ use lib.Dec.{ltb, eqb}
 use lib.ListN.{length}
 use lib.Pow.{pow-pos}
 use borrow.Author.Tests.{eq-eqb, ne-eqb, lt-ltb, le-ltb, ltb-false, lt-leb, leb-false}
+use Rattle.polynomials.specs.Tests.{neither}
 use Rattle.polynomials.specs.Indices.{pick, filled}
 use Rattle.polynomials.specs.IndexLaws.{upto-at, upto-past, exceeds-none}
 use Rattle.polynomials.specs.Lists.{coefficient, sum, product, Below, Within, Pair, Pairs, sumOfProducts, batchMost, productMost}
@@ -30,15 +30,15 @@ use Rattle.polynomials.specs.BoundLaws.{batch-most, batch-more}
 use Rattle.polynomials.specs.Places.{packed, field, fields, sumOfWords}
 use Rattle.polynomials.specs.PlaceLaws.{packed-fields, packed-sum, packed-sumOfProducts, field-packed}
 use Rattle.polynomials.specs.PairLaws.{remainder-next, remainder-full}
-use Rattle.packed.specs.Limits.{mostPairs}
-use Rattle.packed.specs.Answers.{fine, refuses}
-use Rattle.packed.specs.AnswerLaws.{refuses-none}
-use Rattle.packed.specs.Settings.{settingChecks, base, places, spanOf}
-use Rattle.packed.specs.Bounds.{Bounds, bounds}
+use Rattle.settings.specs.Limits.{mostPairs}
+use Rattle.settings.specs.Answers.{fine, refuses}
+use Rattle.settings.specs.AnswerLaws.{refuses-none}
+use Rattle.settings.specs.Settings.{settingChecks, base, places, spanOf}
+use Rattle.settings.specs.Bounds.{Bounds, bounds}
 use Rattle.packed.specs.Places.{wordCause}
 use Rattle.packed.specs.WordLaws.{span-power, within-span}
 use Rattle.packed.specs.Running.{openPairs, residueMost, residuesCause, fieldMost, fieldsCause, sumCause, recordCause, Coherent, closingAt, split, withPair, afterPair, afterPairs}
-use Rattle.packed.specs.declared.setting.Setting.{Setting}
+use Rattle.settings.specs.declared.setting.Setting.{Setting}
 use Rattle.packed.specs.declared.running.Sum.{Sum}
 use Rattle.packed.specs.declared.running.Record.{Record}
 
@@ -56,9 +56,9 @@ module _ (s : Setting) (u : Sum) (ok : settingChecks s ≡ fine) where
   unfolding sumCause
   sum-coherent e =
       let b : Bounds s = bounds s ok in
-      let few = or-eq-false-eq-eq-false-and-eq-false (ltb mostPairs (u .total)) (residuesCause s (u .residues) || (fieldsCause s (openPairs s u) (u .word) || wordCause s (u .word))) .0 e in
-      let rs = or-eq-false-eq-eq-false-and-eq-false (residuesCause s (u .residues)) (fieldsCause s (openPairs s u) (u .word) || wordCause s (u .word)) .0 (few .1) in
-      let fs = or-eq-false-eq-eq-false-and-eq-false (fieldsCause s (openPairs s u) (u .word)) (wordCause s (u .word)) .0 (rs .1) in
+      let few = neither (ltb mostPairs (u .total)) (residuesCause s (u .residues) || (fieldsCause s (openPairs s u) (u .word) || wordCause s (u .word))) e in
+      let rs = neither (residuesCause s (u .residues)) (fieldsCause s (openPairs s u) (u .word) || wordCause s (u .word)) (few .1) in
+      let fs = neither (fieldsCause s (openPairs s u) (u .word)) (wordCause s (u .word)) (rs .1) in
       let each : (j : ℕ) → j < length (u .residues) → coefficient (u .residues) j ≤ residueMost s j = exceeds-none (length (u .residues)) (coefficient (u .residues)) (residueMost s) .0 (rs .0) in
       record {
         accepted = ok;
@@ -94,7 +94,7 @@ coherent-passes s u h =
 pub coherent-is : (r : Record) → (recordCause r ≡ false) ↔ Coherent (r .setting) (r .sum)
 unfolding recordCause
 coherent-is r = (
-  λ e. let both = or-eq-false-eq-eq-false-and-eq-false (refuses (settingChecks (r .setting))) (sumCause (r .setting) (r .sum)) .0 e in
+  λ e. let both = neither (refuses (settingChecks (r .setting))) (sumCause (r .setting) (r .sum)) e in
       sum-coherent (r .setting) (r .sum) (refuses-none (settingChecks (r .setting)) .0 (both .0)) (both .1),
   λ h. rw (refuses-none (settingChecks (r .setting)) .1 (h .accepted), coherent-passes (r .setting) (r .sum) h),
 )
@@ -133,8 +133,8 @@ module _ (s : Setting) (u : Sum) (h : Coherent s u) where
     more-below : Below (base s) more
     more-below j = lt-of-le-of-lt (full-most j) (bounds s (h .accepted) .field-fits j)
 
-    pub word-room : u .word + sumOfWords (base s) cs < 2 ^ 64
-    word-room = rw more-word (bounds s (h .accepted) .batch-fits more full-most)
+    pub open-room : u .word + sumOfWords (base s) cs < 2 ^ 64
+    open-room = rw more-word (bounds s (h .accepted) .batch-fits more full-most)
 
     pub field-more : (j : ℕ) → j < places s → field (base s) (u .word + sumOfWords (base s) cs) j ≡ field (base s) (u .word) j + coefficient (sumOfProducts cs) j
     field-more j l =

@@ -4,9 +4,12 @@
 --     word-top         11, told by what stands from the last place on
 --     WordFits s w     the setting has its bounds, and the word is below q^(2k-1)
 --     word-checked     so it is where nothing is refused up to 11
+--     words-check      11 is given for no word of a list exactly where it is given for none of them alone
+--     words-checked    for an accepted setting that alone decides
 --     places-checked   and up to 10, where the list lent is long enough too
 use Prim.Native.Nat.{ℕ, suc, _-_, _*_, _/_, _^_, _≤_, _<_}
 use mathlib.Core.Path.{_≡_, sym}
+use mathlib.Core.Bool.{false}
 use mathlib.Core.List.{List}
 use mathlib.Core.Logic.{_↔_}
 use native.Mathlib.Nat.{lt-of-not-le, lt-of-le-of-lt}
@@ -16,19 +19,19 @@ use lib.Dec.{leb}
 use lib.ListN.{length}
 use lib.Pow.{pow-pos}
 use borrow.Author.Tests.{le-leb, lt-leb, leb-false, ltb-false}
-use Rattle.polynomials.specs.Indices.{upto}
-use Rattle.polynomials.specs.IndexLaws.{length-upto, upto-at, upto-past, upto-most}
+use Rattle.polynomials.specs.Indices.{upto, some}
+use Rattle.polynomials.specs.IndexLaws.{length-upto, upto-at, upto-past, upto-most, some-none}
 use Rattle.polynomials.specs.Lists.{coefficient, Below, Within, batchMost}
 use Rattle.polynomials.specs.BoundLaws.{batch-past}
 use Rattle.polynomials.specs.Places.{packed}
 use Rattle.polynomials.specs.PlaceLaws.{packed-agree, packed-below, top-place, power-power}
-use Rattle.packed.specs.Answers.{fine, refuse}
-use Rattle.packed.specs.AnswerLaws.{passed-first, passed-last}
-use Rattle.packed.specs.SharedAnswers.{shortCause}
-use Rattle.packed.specs.Settings.{settingChecks, base, places, spanOf}
-use Rattle.packed.specs.Places.{wordCause, wordChecks, placesChecks}
-use Rattle.packed.specs.Bounds.{Bounds, bounds}
-use Rattle.packed.specs.declared.setting.Setting.{Setting}
+use Rattle.settings.specs.Answers.{fine, refuse}
+use Rattle.settings.specs.AnswerLaws.{passed-first, passed-last}
+use Rattle.settings.specs.SharedAnswers.{shortCause}
+use Rattle.settings.specs.Settings.{settingChecks, base, places, spanOf}
+use Rattle.packed.specs.Places.{wordCause, wordChecks, badWord, firstBadWord, wordsCheck, wordsChecks, placesChecks}
+use Rattle.settings.specs.Bounds.{Bounds, bounds}
+use Rattle.settings.specs.declared.setting.Setting.{Setting}
 
 pub span-power : (s : Setting) → 2 ^ spanOf s ≡ base s ^ places s
 span-power s = sym (power-power 2 (s .t) (places s))
@@ -73,6 +76,13 @@ unfolding wordChecks
 word-checked s w e =
     let a = passed-first (settingChecks s) (refuse (wordCause s w) 11 0) tt e in
     record { bounded = bounds s (a .0); below = rw (span-power s) at (leb-false (2 ^ spanOf s) w (passed-last (wordCause s w) 11 0 (a .1))) }
+
+pub words-check : (s : Setting) (ws : List ℕ) → (wordsCheck s ws ≡ fine) ↔ ((i : ℕ) → i < length ws → wordCause s (coefficient ws i) ≡ false)
+words-check s ws = (λ e. some-none (badWord s ws) (length ws) .0 (passed-last (some (badWord s ws) (length ws)) 11 (firstBadWord s ws) e), λ h. rw (some-none (badWord s ws) (length ws) .1 h))
+
+pub words-checked : (s : Setting) (ws : List ℕ) → settingChecks s ≡ fine → wordsChecks s ws ≡ wordsCheck s ws
+unfolding wordsChecks
+words-checked s ws e = rw e
 
 pub places-checked : (s : Setting) (w len : ℕ) → placesChecks s w len ≡ fine → WordFits s w × (places s ≤ len)
 unfolding placesChecks

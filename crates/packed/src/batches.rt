@@ -5,19 +5,20 @@ ghost use mathlib.Core.Bool.{true};
 ghost use Prim.Native.Nat.{_+_, _-_, _*_, _^_, _%_, _<_, _≤_};
 ghost use lib.ListN.{length};
 ghost use Rattle.polynomials.specs.Indices.{filled};
-ghost use Rattle.packed.specs.Limits.{largestModulus, wordBits};
+ghost use Rattle.settings.specs.Limits.{largestModulus, wordBits};
 ghost use Rattle.packed.specs.Running.{split, closingOf};
-ghost use Rattle.packed.specs.Bounds.{Bounds};
-ghost use Rattle.packed.specs.Feeding.{Feeding, fedSum, OpenBatch, batchSum, Multiplying, products};
+ghost use Rattle.settings.specs.Bounds.{Bounds};
+ghost use Rattle.packed.specs.Feeding.{OpenBatch, afterBatch, Multiplying};
+ghost use Rattle.packed.specs.FedPairs.{PairsToFeed, fedSum, products};
 use crate::overflow::overflows;
 use crate::overflow::products_that_fit;
 use crate::running::Sum;
-use crate::setting::Setting;
 use crate::words::least;
 use crate::words::pack_taken;
 use crate::words::places;
 use crate::words::power;
 use crate::words::wide;
+use settings::setting::Setting;
 
 // The sum after some pairs, or that 18 would be given, and that is nowhere.
 pub struct Added {
@@ -27,7 +28,7 @@ pub struct Added {
 
 // All pairs of two flat lists, a batch at a time: what the open batch still takes, then n pairs, then what is left.
 pub fn add_pairs(s: Setting, sum: Sum, xs: &[u16], ys: &[u16]) -> Added
-    requires { ⌜ Feeding s sum (now xs) (now ys) ⌝ }
+    requires { ⌜ PairsToFeed s sum (now xs) (now ys) ⌝ }
     ensures { λ r. ⌜ (r .fits ≡ true) × (r .sum ≡ fedSum s sum (now (xs .entry)) (now (ys .entry))) ⌝ }
 {
     let pairs = xs.len() / s.k as usize;
@@ -65,7 +66,7 @@ fn reopened(n: u64, held: u64) -> u64
 // The next count pairs, from pair i on, after which the open batch holds held pairs. As soon as these are n, the word is split.
 fn add_batch(s: Setting, sum: Sum, held: u64, xs: &[u16], ys: &[u16], i: usize, count: usize) -> Sum
     requires { ⌜ OpenBatch s sum held (now xs) (now ys) i count ⌝ }
-    ensures { λ r. ⌜ r ≡ batchSum s sum (now (xs .entry)) (now (ys .entry)) i count ⌝ }
+    ensures { λ r. ⌜ r ≡ afterBatch s sum (now (xs .entry)) (now (ys .entry)) i count ⌝ }
 {
     let word = add_products(s, xs, ys, i, count, sum.word);
     let residues = sum.residues;

@@ -3,25 +3,17 @@ ghost use mathlib.Core.Path.{_≡_};
 ghost use Prim.Native.Nat.{_+_, _^_, _≤_};
 ghost use lib.ListN.{length};
 ghost use Rattle.polynomials.specs.Indices.{filled};
-ghost use Rattle.polynomials.specs.Blocks.{blocks, blockAt};
-ghost use Rattle.packed.specs.Limits.{largestBatch, longestFactor, mostPairs};
-ghost use Rattle.packed.specs.Coefficients.{taken};
-ghost use Rattle.packed.specs.Gathering.{Packing, packedBack};
-use crate::setting::Setting;
+ghost use Rattle.polynomials.specs.Blocks.{blockAt};
+ghost use Rattle.settings.specs.Limits.{longestFactor};
+ghost use Rattle.packed.specs.Taken.{taken};
+ghost use Rattle.packed.specs.Gathering.{Packable, packedBack};
 use crate::words::least;
 use crate::words::pack_taken;
-
-// How many blocks of k len elements take.
-pub fn block_count(k: u64, len: usize) -> usize
-    requires { ⌜ (1 ≤ k) × (k ≤ largestBatch) × (len ≤ mostPairs) ⌝ }
-    ensures { λ r. ⌜ r ≡ blocks k len ⌝ }
-{
-    (len + k as usize - 1) / k as usize
-}
+use settings::setting::Setting;
 
 // The words of the first count blocks, the lowest first.
 pub fn pack_blocks(s: Setting, xs: &[u16], count: usize, out: &mut [u64])
-    requires { ⌜ Packing s (now xs) × (count ≤ longestFactor) × (count ≤ length (now out)) ⌝ }
+    requires { ⌜ Packable s (now xs) × (count ≤ longestFactor) × (count ≤ length (now out)) ⌝ }
     ensures { λ _. ⌜ now (out .exit) ≡ filled count (blockAt (2 ^ s .t) (s .k) (taken (s .p) (now (xs .entry)))) (now (out .entry)) ⌝ }
 {
     let mut i = 0;
@@ -33,7 +25,7 @@ pub fn pack_blocks(s: Setting, xs: &[u16], count: usize, out: &mut [u64])
 
 // The words of count blocks, the highest first, after a zero for each of three columns that follow a first one: blocks past the last are empty.
 pub fn pack_back(s: Setting, xs: &[u16], count: usize, out: &mut [u64])
-    requires { ⌜ Packing s (now xs) × (count ≤ longestFactor) × (count + 3 ≤ length (now out)) ⌝ }
+    requires { ⌜ Packable s (now xs) × (count ≤ longestFactor) × (count + 3 ≤ length (now out)) ⌝ }
     ensures { λ _. ⌜ now (out .exit) ≡ filled (count + 3) (packedBack s (now (xs .entry)) count) (now (out .entry)) ⌝ }
 {
     let mut i = 0;
@@ -45,7 +37,7 @@ pub fn pack_back(s: Setting, xs: &[u16], count: usize, out: &mut [u64])
 
 // The word of block i.
 fn pack_block(s: Setting, xs: &[u16], i: usize) -> u64
-    requires { ⌜ Packing s (now xs) × (i ≤ longestFactor + 2) ⌝ }
+    requires { ⌜ Packable s (now xs) × (i ≤ longestFactor + 2) ⌝ }
     ensures { λ r. ⌜ r ≡ blockAt (2 ^ s .t) (s .k) (taken (s .p) (now (xs .entry))) i ⌝ }
 {
     let k = s.k as usize;

@@ -9,15 +9,15 @@ ghost use lib.ListN.{length};
 ghost use Rattle.polynomials.specs.Indices.{filled};
 ghost use Rattle.polynomials.specs.Places.{packed};
 ghost use Rattle.polynomials.specs.Blocks.{spread};
-ghost use Rattle.packed.specs.Limits.{largestModulus, wordBits};
-ghost use Rattle.packed.specs.Gathering.{sumResidue, Gathering, Sums, Adding, AddsColumns, Batching, BatchWords, AddingWords, AddsWords, AddsWord};
-use crate::blocks::block_count;
+ghost use Rattle.settings.specs.Limits.{largestModulus, wordBits};
+ghost use Rattle.packed.specs.Gathering.{sumResidue, Gathering, Sums, AddingColumns, AddsColumns, Batching, BatchWords, AddingWords, AddsWords, AddsWord};
 use crate::overflow::overflows;
 use crate::overflow::products_that_fit;
-use crate::setting::Setting;
 use crate::words::least;
 use crate::words::places;
 use crate::words::power;
+use crate::words::rounded_up;
+use settings::setting::Setting;
 
 const COLUMNS: usize = 4;
 
@@ -35,8 +35,8 @@ pub fn gather(s: Setting, a: &[u16], b: &[u16], xs: &[u64], ys: &[u64], sums: &m
     requires { ⌜ Gathering s (now a) (now b) (now xs) (now ys) (now sums) ⌝ }
     ensures { λ r. ⌜ (r ≡ true) × Sums (now (a .entry)) (now (b .entry)) (now (sums .entry)) (now (sums .exit)) ⌝ }
 {
-    let m = block_count(s.k, a.len());
-    let n = block_count(s.k, b.len());
+    let m = rounded_up(a.len(), s.k);
+    let n = rounded_up(b.len(), s.k);
     let k = s.k as usize;
     let fit = products_that_fit(s);
     let mut z = 0;
@@ -65,7 +65,7 @@ fn add_columns(
     at: usize,
     sums: &mut [u64],
 ) -> bool
-    requires { ⌜ Adding s (now xs) (now ys) i j count at (now sums) × (s .n ≤ fit) ⌝ }
+    requires { ⌜ AddingColumns s (now xs) (now ys) i j count at (now sums) × (s .n ≤ fit) ⌝ }
     ensures { λ r. ⌜ (r ≡ true) × AddsColumns s (now (xs .entry)) (now (ys .entry)) i j count at (now (sums .entry)) (now (sums .exit)) ⌝ }
 {
     let most = batch_size(s.n);
@@ -75,14 +75,14 @@ fn add_columns(
         if overflows(fit, more) {
             return false;
         }
-        add_batch(s, xs, ys, i + done, j + done, more, at, sums);
+        add_four_batches(s, xs, ys, i + done, j + done, more, at, sums);
         done += more;
     }
     true
 }
 
 // The same of one batch: four words, and each is split. Where k is a number that is known, the splitting is written out.
-fn add_batch(
+fn add_four_batches(
     s: Setting,
     xs: &[u64],
     ys: &[u64],
@@ -92,17 +92,17 @@ fn add_batch(
     at: usize,
     sums: &mut [u64],
 )
-    requires { ⌜ Adding s (now xs) (now ys) i j count at (now sums) × (count ≤ s .n) ⌝ }
+    requires { ⌜ AddingColumns s (now xs) (now ys) i j count at (now sums) × (count ≤ s .n) ⌝ }
     ensures { λ _. ⌜ AddsColumns s (now (xs .entry)) (now (ys .entry)) i j count at (now (sums .entry)) (now (sums .exit)) ⌝ }
 {
     let words = batch(&xs[i..i + count], &ys[j..j + count + 3]);
     let k = s.k;
     match k {
-        1 => add_words(s.t, 1, words, at, sums),
-        2 => add_words(s.t, 2, words, at, sums),
-        3 => add_words(s.t, 3, words, at, sums),
-        4 => add_words(s.t, 4, words, at, sums),
-        _ => add_words(s.t, k, words, at, sums),
+        1 => add_four_words(s.t, 1, words, at, sums),
+        2 => add_four_words(s.t, 2, words, at, sums),
+        3 => add_four_words(s.t, 3, words, at, sums),
+        4 => add_four_words(s.t, 4, words, at, sums),
+        _ => add_four_words(s.t, k, words, at, sums),
     }
 }
 
@@ -141,7 +141,7 @@ fn add_product(sum: u64, x: u64, y: u64) -> u64
 }
 
 // The 2k-1 fields of each word, added to the sums: of the first from place at on, and of each of the others k places further.
-fn add_words(t: u64, k: u64, words: FourWords, at: usize, sums: &mut [u64])
+fn add_four_words(t: u64, k: u64, words: FourWords, at: usize, sums: &mut [u64])
     requires { ⌜ AddingWords t k (words .first) (words .second) (words .third) (words .fourth) at (now sums) ⌝ }
     ensures { λ _. ⌜ AddsWords t k (words .first) (words .second) (words .third) (words .fourth) at (now (sums .entry)) (now (sums .exit)) ⌝ }
 {

@@ -4,11 +4,11 @@ ghost use mathlib.Core.Path.{_≡_};
 ghost use Prim.Native.Nat.{_≤_};
 ghost use lib.Dec.{ltb};
 ghost use Rattle.polynomials.specs.Places.{packed};
-ghost use Rattle.packed.specs.Settings.{base};
-ghost use Rattle.packed.specs.Bounds.{Bounds};
+ghost use Rattle.settings.specs.Settings.{base};
+ghost use Rattle.settings.specs.Bounds.{Bounds};
 ghost use Rattle.packed.specs.OverflowLaws.{largest};
-use crate::setting::Setting;
 use crate::words::power;
+use settings::setting::Setting;
 
 // How many products of the largest words fit one word.
 pub fn products_that_fit(s: Setting) -> u64

@@ -1,20 +1,21 @@
 // A word and its places: pack, unpack, shifted residues, reduce. A word has 2k-1 places, as many as a product has coefficients.
 ghost use mathlib.Core.Path.{_≡_};
-ghost use Rattle.packed.specs.Settings.{checkedSays};
-ghost use Rattle.packed.specs.Places.{wordChecks, placesChecks, Packs, Unpacks, ShiftedResidues, Reduces};
-use crate::answers::Packed;
-use crate::answers::Wrote;
-use crate::refusals;
-use crate::setting::Checked;
-use crate::setting::Setting;
-use crate::setting::check;
-use crate::words::first_bad;
+ghost use Rattle.settings.specs.Settings.{checkedSays};
+ghost use Rattle.packed.specs.Places.{placesChecks, ChecksWord, ChecksWords, Packs, Unpacks, ShiftedResidues, Reduces};
+use crate::words::first_bad_word;
 use crate::words::pack_taken;
 use crate::words::places;
 use crate::words::reduce_fields;
 use crate::words::split_fields;
 use crate::words::split_shifted;
 use crate::words::word_cause;
+use settings::answers::Packed;
+use settings::answers::Wrote;
+use settings::coefficients::first_bad;
+use settings::refusals;
+use settings::setting::Checked;
+use settings::setting::Setting;
+use settings::setting::check;
 
 // Exactly k coefficients: 9, 8. The word is the sum of a_i q^i.
 pub fn pack(s: Setting, coefficients: &[u16]) -> Packed
@@ -71,8 +72,8 @@ pub fn reduce(s: Setting, word: u64) -> Packed
 }
 
 // The setting's checks, then 11.
-fn check_word(s: Setting, word: u64) -> Checked
-    ensures { λ r. ⌜ checkedSays r ≡ wordChecks s word ⌝ }
+pub fn check_word(s: Setting, word: u64) -> Checked
+    ensures { λ r. ⌜ ChecksWord s word r ⌝ }
 {
     if let Checked::Refused(r) = check(s) {
         return Checked::Refused(r);
@@ -83,7 +84,21 @@ fn check_word(s: Setting, word: u64) -> Checked
     Checked::Accepted
 }
 
-// These, then 10, where a list of len elements is lent for the places.
+// The setting's checks, then 11 of a list, with the index of its first bad word.
+pub fn check_words(s: Setting, words: &[u64]) -> Checked
+    ensures { λ r. ⌜ ChecksWords s (now (words .entry)) r ⌝ }
+{
+    if let Checked::Refused(r) = check(s) {
+        return Checked::Refused(r);
+    }
+    let bad = first_bad_word(s, words);
+    if bad < words.len() {
+        return Checked::Refused(refusals::word_at(bad));
+    }
+    Checked::Accepted
+}
+
+// The setting's checks, 11 of a word, then 10, where a list of len elements is lent for the places.
 fn check_places(s: Setting, word: u64, len: usize) -> Checked
     ensures { λ r. ⌜ checkedSays r ≡ placesChecks s word len ⌝ }
 {

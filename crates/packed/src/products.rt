@@ -4,25 +4,31 @@ ghost use mathlib.Core.Bool.{true};
 ghost use Prim.Native.Nat.{_≤_};
 ghost use lib.ListN.{length};
 ghost use Rattle.polynomials.specs.Lists.{productLength};
-ghost use Rattle.packed.specs.Limits.{longestFactor};
-ghost use Rattle.packed.specs.Settings.{checkedSays};
+ghost use Rattle.settings.specs.Limits.{longestFactor};
+ghost use Rattle.settings.specs.Settings.{checkedSays};
 ghost use Rattle.packed.specs.Products.{factorChecks, Multiplies};
-ghost use Rattle.packed.specs.Gathering.{Working, Works, Room};
-use crate::answers::Wrote;
-use crate::blocks::block_count;
+ghost use Rattle.packed.specs.Gathering.{shortFactor, ToMultiply, WritesProduct, Room};
 use crate::blocks::pack_back;
 use crate::blocks::pack_blocks;
-use crate::coefficients::check_coefficients;
 use crate::columns::gather;
 use crate::columns::write_remainders;
-use crate::limits::LONGEST_FACTOR;
-use crate::refusals;
-use crate::setting::Checked;
-use crate::setting::Setting;
-use crate::setting::check;
+use crate::words::rounded_up;
+use settings::answers::Wrote;
+use settings::coefficients::check_coefficients;
+use settings::limits::LONGEST_FACTOR;
+use settings::refusals;
+use settings::setting::Checked;
+use settings::setting::Setting;
+use settings::setting::check;
 
 // The longest list that is worked in short arrays.
 const SHORT_FACTOR: usize = 256;
+
+// Past a word for each coefficient of the second list: zeros around them, for the columns that are worked at once.
+const ZEROS_AROUND: usize = 8;
+
+// Past a sum for each coefficient of both lists: sums for five blocks of the largest k, which those columns reach beyond the product.
+const SUMS_BEYOND: usize = 64;
 
 // Coefficient j is the sum of a_i b_(j-i) modulo p, for two lists of 0 to 4,096 coefficients: 9, 8, 10, 18.
 pub fn product(s: Setting, a: &[u16], b: &[u16], out: &mut [u16]) -> Wrote
@@ -80,8 +86,8 @@ fn product_length(m: usize, n: usize) -> usize
 
 // The product of two lists that are not empty. All of an array is set to zero first, so that short lists are worked in short ones.
 fn multiply(s: Setting, a: &[u16], b: &[u16], out: &mut [u16]) -> bool
-    requires { ⌜ Working s (now a) (now b) (now out) ⌝ }
-    ensures { λ r. ⌜ (r ≡ true) × Works s (now (a .entry)) (now (b .entry)) (now (out .entry)) (now (out .exit)) ⌝ }
+    requires { ⌜ ToMultiply s (now a) (now b) (now out) ⌝ }
+    ensures { λ r. ⌜ (r ≡ true) × WritesProduct s (now (a .entry)) (now (b .entry)) (now (out .entry)) (now (out .exit)) ⌝ }
 {
     if a.len() <= SHORT_FACTOR {
         if b.len() <= SHORT_FACTOR {
@@ -91,25 +97,25 @@ fn multiply(s: Setting, a: &[u16], b: &[u16], out: &mut [u16]) -> bool
     multiply_long(s, a, b, out)
 }
 
-// A word for a block of one coefficient or more, six zeros around those of the second list, and sums for five blocks past the product.
+// In short arrays: a word for a block of one coefficient or more, and what the columns need around them.
 fn multiply_short(s: Setting, a: &[u16], b: &[u16], out: &mut [u16]) -> bool
-    requires { ⌜ Working s (now a) (now b) (now out) × (length (now a) ≤ 256) × (length (now b) ≤ 256) ⌝ }
-    ensures { λ r. ⌜ (r ≡ true) × Works s (now (a .entry)) (now (b .entry)) (now (out .entry)) (now (out .exit)) ⌝ }
+    requires { ⌜ ToMultiply s (now a) (now b) (now out) × (length (now a) ≤ shortFactor) × (length (now b) ≤ shortFactor) ⌝ }
+    ensures { λ r. ⌜ (r ≡ true) × WritesProduct s (now (a .entry)) (now (b .entry)) (now (out .entry)) (now (out .exit)) ⌝ }
 {
-    let mut xs = [0u64; 256];
-    let mut ys = [0u64; 264];
-    let mut sums = [0u64; 576];
+    let mut xs = [0u64; SHORT_FACTOR];
+    let mut ys = [0u64; SHORT_FACTOR + ZEROS_AROUND];
+    let mut sums = [0u64; 2 * SHORT_FACTOR + SUMS_BEYOND];
     multiply_in(s, a, b, &mut xs, &mut ys, &mut sums, out)
 }
 
 // The same for the longest lists.
 fn multiply_long(s: Setting, a: &[u16], b: &[u16], out: &mut [u16]) -> bool
-    requires { ⌜ Working s (now a) (now b) (now out) ⌝ }
-    ensures { λ r. ⌜ (r ≡ true) × Works s (now (a .entry)) (now (b .entry)) (now (out .entry)) (now (out .exit)) ⌝ }
+    requires { ⌜ ToMultiply s (now a) (now b) (now out) ⌝ }
+    ensures { λ r. ⌜ (r ≡ true) × WritesProduct s (now (a .entry)) (now (b .entry)) (now (out .entry)) (now (out .exit)) ⌝ }
 {
-    let mut xs = [0u64; 4096];
-    let mut ys = [0u64; 4104];
-    let mut sums = [0u64; 8256];
+    let mut xs = [0u64; LONGEST_FACTOR];
+    let mut ys = [0u64; LONGEST_FACTOR + ZEROS_AROUND];
+    let mut sums = [0u64; 2 * LONGEST_FACTOR + SUMS_BEYOND];
     multiply_in(s, a, b, &mut xs, &mut ys, &mut sums, out)
 }
 
@@ -123,11 +129,11 @@ fn multiply_in(
     sums: &mut [u64],
     out: &mut [u16],
 ) -> bool
-    requires { ⌜ Working s (now a) (now b) (now out) × Room s (now a) (now b) (now xs) (now ys) (now sums) ⌝ }
-    ensures { λ r. ⌜ (r ≡ true) × Works s (now (a .entry)) (now (b .entry)) (now (out .entry)) (now (out .exit)) ⌝ }
+    requires { ⌜ ToMultiply s (now a) (now b) (now out) × Room s (now a) (now b) (now xs) (now ys) (now sums) ⌝ }
+    ensures { λ r. ⌜ (r ≡ true) × WritesProduct s (now (a .entry)) (now (b .entry)) (now (out .entry)) (now (out .exit)) ⌝ }
 {
-    pack_blocks(s, a, block_count(s.k, a.len()), xs);
-    pack_back(s, b, block_count(s.k, b.len()), ys);
+    pack_blocks(s, a, rounded_up(a.len(), s.k), xs);
+    pack_back(s, b, rounded_up(b.len(), s.k), ys);
     let fits = gather(s, a, b, xs, ys, sums);
     if !fits {
         return false;

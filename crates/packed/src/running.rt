@@ -2,30 +2,31 @@
 ghost use mathlib.Core.Path.{_≡_};
 ghost use mathlib.Core.Bool.{false};
 ghost use Prim.Native.Nat.{_-_, _*_, _<_};
-ghost use Rattle.packed.specs.Settings.{checkedSays};
-ghost use Rattle.packed.specs.Bounds.{Bounds};
+ghost use Rattle.settings.specs.Settings.{checkedSays};
+ghost use Rattle.settings.specs.Bounds.{Bounds};
 ghost use Rattle.packed.specs.Running.{recordCause, sumCause, residueMost, residuesCause, fieldsCause, fieldMost, pairChecks, closeChecks, Freshens, Feeds, Closes};
 use crate::batches::add_pairs;
 use crate::batches::add_residues;
-use crate::blocks::block_count;
-use crate::coefficients::check_coefficients;
-use crate::limits::MOST_PAIRS;
-use crate::refusals;
-use crate::refusals::Refusal;
-use crate::setting::Checked;
-use crate::setting::Setting;
-use crate::setting::check;
 use crate::words::least;
 use crate::words::places;
 use crate::words::power;
+use crate::words::rounded_up;
 use crate::words::wide;
 use crate::words::word_cause;
+use settings::coefficients::check_coefficients;
+use settings::limits::MOST_PAIRS;
+use settings::limits::RESIDUE_PLACES;
+use settings::refusals;
+use settings::refusals::Refusal;
+use settings::setting::Checked;
+use settings::setting::Setting;
+use settings::setting::check;
 
 // What was added up: how many pairs, the word of the open batch, unreduced, and the residues of the full batches.
 pub struct Sum {
     pub total: u64,
     pub word: u64,
-    pub residues: [u16; 15],
+    pub residues: [u16; RESIDUE_PLACES],
 }
 
 pub struct Record {
@@ -34,7 +35,7 @@ pub struct Record {
 }
 
 // How many pairs a feed took.
-pub enum Taken {
+pub enum Counted {
     Pairs(usize),
     Refused(Refusal),
 }
@@ -53,7 +54,7 @@ pub struct Begun {
 
 pub struct Fed {
     pub running: Record,
-    pub answer: Taken,
+    pub answer: Counted,
 }
 
 // The setting's checks only. All but the setting is zero, also in what is handed back beside a refusal.
@@ -66,7 +67,7 @@ pub fn fresh(s: Setting) -> Begun
             sum: Sum {
                 total: 0,
                 word: 0,
-                residues: [0u16; 15],
+                residues: [0u16; RESIDUE_PLACES],
             },
         },
         answer: check(s),
@@ -80,13 +81,13 @@ pub fn feed(running: Record, xs: &[u16], ys: &[u16]) -> Fed
     if record_cause(running) {
         return Fed {
             running: running,
-            answer: Taken::Refused(refusals::RECORD),
+            answer: Counted::Refused(refusals::RECORD),
         };
     }
     if let Checked::Refused(r) = check_pairs(running, xs, ys) {
         return Fed {
             running: running,
-            answer: Taken::Refused(r),
+            answer: Counted::Refused(r),
         };
     }
     let s = running.setting;
@@ -95,7 +96,7 @@ pub fn feed(running: Record, xs: &[u16], ys: &[u16]) -> Fed
     if !added.fits {
         return Fed {
             running: running,
-            answer: Taken::Refused(refusals::OVERFLOW),
+            answer: Counted::Refused(refusals::OVERFLOW),
         };
     }
     let fed = added.sum;
@@ -104,7 +105,7 @@ pub fn feed(running: Record, xs: &[u16], ys: &[u16]) -> Fed
             setting: s,
             sum: fed,
         },
-        answer: Taken::Pairs(xs.len() / s.k as usize),
+        answer: Counted::Pairs(xs.len() / s.k as usize),
     }
 }
 
@@ -119,7 +120,7 @@ pub fn close(running: Record, out: &mut [u16]) -> Closed
     let sum = running.sum;
     let residues = sum.residues;
     add_residues(s.p, s.t, places(s.k), sum.word, &residues, out);
-    Closed::Reductions(block_count(s.n, sum.total as usize) as u64)
+    Closed::Reductions(rounded_up(sum.total as usize, s.n) as u64)
 }
 
 // 9, 13, 8, for a coherent record. 12 comes first and feed asks it itself: the record then stays in memory across that call, where read earlier it

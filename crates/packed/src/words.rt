@@ -3,14 +3,13 @@
 ghost use mathlib.Core.Path.{_≡_};
 ghost use Prim.Native.Nat.{_+_, _-_, _*_, _^_, _<_, _≤_, min};
 ghost use lib.ListN.{length};
-ghost use Rattle.polynomials.specs.Indices.{upto, filled};
+ghost use Rattle.polynomials.specs.Indices.{roundedUp, upto, filled};
 ghost use Rattle.polynomials.specs.Places.{packed, field, shifted, reduced};
-ghost use Rattle.packed.specs.Limits.{largestModulus, mostCoefficients, wordBits};
-ghost use Rattle.packed.specs.Bounds.{Bounds};
-ghost use Rattle.packed.specs.Coefficients.{firstBad, firstBadOfTwo, NoneAbove, taken, takenOne};
-ghost use Rattle.packed.specs.Places.{wordCause};
-ghost use Rattle.packed.specs.Tables.{firstBadWord};
-use crate::setting::Setting;
+ghost use Rattle.settings.specs.Limits.{largestModulus, mostCoefficients, largestBatch, mostPairs, wordBits};
+ghost use Rattle.settings.specs.Bounds.{Bounds};
+ghost use Rattle.packed.specs.Taken.{taken, takenOne};
+ghost use Rattle.packed.specs.Places.{wordCause, firstBadWord};
+use settings::setting::Setting;
 
 // 2^t
 pub fn power(t: u64) -> u64
@@ -34,49 +33,6 @@ pub fn word_cause(s: Setting, word: u64) -> bool
     ensures { λ r. ⌜ r ≡ wordCause s word ⌝ }
 {
     power(s.t) <= word >> ((2 * s.k - 2) * s.t)
-}
-
-// The index of the first coefficient that is not below p, or the list's length where there is none. It is searched for only where there is one:
-// finding the largest takes several coefficients at once.
-pub fn first_bad(p: u64, xs: &[u16]) -> usize
-    ensures { λ r. ⌜ r ≡ firstBad p (now (xs .entry)) ⌝ }
-{
-    if wide(largest(xs)) < p {
-        return xs.len();
-    }
-    let mut i = 0;
-    while i < xs.len() {
-        if p <= wide(xs[i]) {
-            return i;
-        }
-        i += 1;
-    }
-    i
-}
-
-// A bound of all coefficients: the largest.
-fn largest(xs: &[u16]) -> u16
-    ensures { λ r. ⌜ NoneAbove r (now (xs .entry)) ⌝ }
-{
-    let mut most = 0u16;
-    let mut i = 0;
-    while i < xs.len() {
-        most = larger(most, xs[i]);
-        i += 1;
-    }
-    most
-}
-
-// In two lists the first is searched first, and an index in the second has the first's length added.
-pub fn first_bad_of_two(p: u64, xs: &[u16], ys: &[u16]) -> usize
-    requires { ⌜ length (now xs) + length (now ys) < 2 ^ wordBits ⌝ }
-    ensures { λ r. ⌜ r ≡ firstBadOfTwo p (now (xs .entry)) (now (ys .entry)) ⌝ }
-{
-    let bad = first_bad(p, xs);
-    if bad < xs.len() {
-        return bad;
-    }
-    xs.len() + first_bad(p, ys)
 }
 
 // The index of the first word that meets 11, or the list's length where there is none.
@@ -165,16 +121,18 @@ fn taken_one(p: u64, x: u16) -> u64
     wide(x)
 }
 
+// m / n, rounded up.
+pub fn rounded_up(m: usize, n: u64) -> usize
+    requires { ⌜ (1 ≤ n) × (n ≤ largestBatch) × (m ≤ mostPairs) ⌝ }
+    ensures { λ r. ⌜ r ≡ roundedUp m n ⌝ }
+{
+    (m + n as usize - 1) / n as usize
+}
+
 pub fn wide(x: u16) -> u64
     ensures { λ r. ⌜ r ≡ x ⌝ }
 {
     x as u64
-}
-
-fn larger(x: u16, y: u16) -> u16
-    ensures { λ r. ⌜ (x ≤ r) × (y ≤ r) ⌝ }
-{
-    if x < y { y } else { x }
 }
 
 pub fn least(x: usize, y: usize) -> usize

@@ -1,6 +1,6 @@
 -- The product of two lists, gathered from products of blocks, for every k and every cut into batches. Assumes nothing.
 --     blocks-enough, blocks-most       the blocks of k hold all m coefficients, and at most k - 1 more
---     blocks-few, blocks-some          they are no more than the coefficients, and there is one where there is a coefficient
+--     rounded-up-few, blocks-some      they are no more than the coefficients, and there is one where there is a coefficient
 --     coefficient-block                a block's coefficients
 --     block-operand                    a block of a list below p is an operand
 --     packed-blocks                    a list is its blocks, packed in the base q^k
@@ -24,7 +24,7 @@ use lib.Dec.{ltb}
 use lib.ListN.{length}
 use lib.Pow.{pow-add}
 use borrow.Author.Tests.{lt-ltb, le-ltb}
-use Rattle.polynomials.specs.Indices.{pick, sumTo, upto}
+use Rattle.polynomials.specs.Indices.{pick, roundedUp, sumTo, upto}
 use Rattle.polynomials.specs.Lists.{coefficient, productLength, productAt, product, Below, Operand, Pair, Pairs, sumOfProducts}
 use Rattle.polynomials.specs.Places.{packed, field, fields, sumOfWords}
 use Rattle.polynomials.specs.Blocks.{blocks, block, blockAt, blockList, pairsUpto, dot, spread, raised, down, backwards}
@@ -40,10 +40,10 @@ blocks-enough k m h = omega (arith, div-add-mod' (m + k - 1) k, mod-lt (m + k - 
 pub blocks-most : (k m : ℕ) → blocks k m * k ≤ m + k - 1
 blocks-most k m = omega (arith, div-add-mod' (m + k - 1) k)
 
-pub blocks-few : (k m : ℕ) → 0 < k → blocks k m ≤ m
-blocks-few k m h = go (decLt m (blocks k m))
+pub rounded-up-few : (m k : ℕ) → 0 < k → roundedUp m k ≤ m
+rounded-up-few m k h = go (decLt m (roundedUp m k))
   where
-    go : Dec (m < blocks k m) → blocks k m ≤ m
+    go : Dec (m < roundedUp m k) → roundedUp m k ≤ m
     go (yes l) = absurd (omega (arith, blocks-most k m, mul-le-mul-right k l, suc-mul m k, le-mul-of-pos-right m h))
     go (no l) = omega arith
 

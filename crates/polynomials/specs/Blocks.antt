@@ -9,16 +9,16 @@
 --     raised xs i v         xs with v added at place i
 --     down ys z i           what coefficient i of a first factor meets in ys, in coefficient z of the product
 --     backwards w ys r      ys with the last coefficient first, w zeros before it and zeros after it
-use Prim.Native.Nat.{ℕ, zero, suc, _+_, _-_, _*_, _/_}
+use Prim.Native.Nat.{ℕ, zero, suc, _+_, _-_, _*_}
 use mathlib.Core.List.{List, [], _∷_}
 use lib.Dec.{ltb}
 use lib.ListN.{length, set}
-use Rattle.polynomials.specs.Indices.{pick, sumTo, upto}
+use Rattle.polynomials.specs.Indices.{pick, roundedUp, sumTo, upto}
 use Rattle.polynomials.specs.Lists.{coefficient, Pair}
 use Rattle.polynomials.specs.Places.{packed, fields}
 
 abbrev pub blocks : ℕ → ℕ → ℕ
-blocks k m = (m + k - 1) / k
+blocks k m = roundedUp m k
 
 abbrev pub block : ℕ → List ℕ → ℕ → List ℕ
 block k xs i = upto k (λ j. coefficient xs (i * k + j))

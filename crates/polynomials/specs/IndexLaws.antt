@@ -8,6 +8,7 @@
 --     first-is, first-only                          the search finds what First says, and First says it of one number only
 --     first-none                                    it is through exactly where the test holds at none of the numbers from 0
 --     first-found, first-passed, first-ended        a searching loop's turn at i: it stops, it goes on, it is through
+--     some-none                                     it holds at none of them exactly where some says so
 --     exceeds-none                                  no value is above its bound exactly where each is at most it
 --     exceeds-first, exceeds-passed, exceeds-found, exceeds-through
 --                                                   a loop that looks for one: at its start, its turn at i, where it stops, where it is through
@@ -20,32 +21,34 @@ use native.Mathlib.Nat.{not-suc-le-zero, le-of-suc-le-suc, eq-or-lt-of-le, mul-l
 use native.Mathlib.Decide.{decLt}
 use native.Mathlib.Numerals.{add-one}
 use native.Mathlib.Omega.{arith}
-use lib.Dec.{ltb}
 use lib.ListN.{length, getD, set, drop, length-append, List·getD-append, List·getD-eq-default}
 use lib.Seq.{getD-at, set-at, drop-cons, append-snoc}
 use borrow.Author.Tests.{lt-ltb, ltb-false, le-ltb}
-use Rattle.polynomials.specs.Indices.{pick, sumTo, upto, filled, first, First, above, exceeds}
+use Rattle.polynomials.specs.Indices.{pick, sumTo, upto, filled, first, First, some, above, exceeds}
 
-pub length-upto : (n : ℕ) (f : ℕ → ℕ) → length (upto n f) ≡ n
+pub length-upto : {A : Type 0} (n : ℕ) (f : ℕ → A) → length (upto n f) ≡ n
 length-upto zero f = refl
 length-upto (suc n) f = length-append (upto n f) (f n ∷ []) ∙ omega (arith, length-upto n f)
 
-pub upto-at : (n : ℕ) (f : ℕ → ℕ) (i : ℕ) → i < n → getD (upto n f) i 0 ≡ f i
-upto-at zero f i h = absurd (not-suc-le-zero h)
-upto-at (suc n) f i h =
+pub upto-nth : {A : Type 0} (d : A) (n : ℕ) (f : ℕ → A) (i : ℕ) → i < n → getD (upto n f) i d ≡ f i
+upto-nth d zero f i h = absurd (not-suc-le-zero h)
+upto-nth d (suc n) f i h =
     ⊎-elim
-    (λ e. let e2 : i ≡ n = omega arith in rw e2 (getD-at (upto n f) (f n) [] 0 n (length-upto n f)))
-    (λ l. let l2 : i < n = omega arith in List·getD-append (upto n f) (f n ∷ []) 0 i (rw length-upto l2) ∙ upto-at n f i l2)
+    (λ e. let e2 : i ≡ n = omega arith in rw e2 (getD-at (upto n f) (f n) [] d n (length-upto n f)))
+    (λ l. let l2 : i < n = omega arith in List·getD-append (upto n f) (f n ∷ []) d i (rw length-upto l2) ∙ upto-nth d n f i l2)
     (eq-or-lt-of-le (le-of-suc-le-suc h))
+
+pub upto-at : (n : ℕ) (f : ℕ → ℕ) (i : ℕ) → i < n → getD (upto n f) i 0 ≡ f i
+upto-at = upto-nth 0
 
 pub upto-past : (n : ℕ) (f : ℕ → ℕ) (i : ℕ) → n ≤ i → getD (upto n f) i 0 ≡ 0
 upto-past n f i h = List·getD-eq-default (upto n f) 0 {n = i} (rw length-upto h)
 
-pub upto-same : (n : ℕ) (f g : ℕ → ℕ) → ((i : ℕ) → i < n → f i ≡ g i) → upto n f ≡ upto n g
+pub upto-same : {A : Type 0} (n : ℕ) (f g : ℕ → A) → ((i : ℕ) → i < n → f i ≡ g i) → upto n f ≡ upto n g
 upto-same zero f g h = refl
 upto-same (suc n) f g h = rw (upto-same n f g (λ i l. h i (omega arith)), h n (omega arith))
 
-pub upto-join : (m n : ℕ) (f : ℕ → ℕ) → upto (m + n) f ≡ upto m f ++ upto n (λ r. f (m + r))
+pub upto-join : {A : Type 0} (m n : ℕ) (f : ℕ → A) → upto (m + n) f ≡ upto m f ++ upto n (λ r. f (m + r))
 upto-join m zero f = rw (add-zero m, append-nil (upto m f))
 upto-join m (suc n) f = rw (add-suc m n, upto-join m n f, append-assoc (upto m f) (upto n (λ r. f (m + r))) (f (m + n) ∷ []))
 
@@ -58,10 +61,10 @@ upto-most n f i = go (decLt i n)
 
 -- ---- fills
 
-pub filled-more : (f : ℕ → ℕ) (old now : List ℕ) (i v : ℕ) → i < length old → now ≡ filled i f old → v ≡ f i → set now i v ≡ filled (i + 1) f old
+pub filled-more : {A : Type 0} (f : ℕ → A) (old now : List A) (i : ℕ) (v : A) → i < length old → now ≡ filled i f old → v ≡ f i → set now i v ≡ filled (i + 1) f old
 filled-more f old now i v h e w =
-    rw (e, w, add-one, drop-cons old i 0)
-    (set-at (upto i f) (getD old i 0) (drop (suc i) old) (f i) i (length-upto i f) ∙ sym (append-snoc (upto i f) (f i) (drop (suc i) old)))
+    rw (e, w, add-one, drop-cons old i v)
+    (set-at (upto i f) (getD old i v) (drop (suc i) old) (f i) i (length-upto i f) ∙ sym (append-snoc (upto i f) (f i) (drop (suc i) old)))
 
 -- ---- sums
 
@@ -164,10 +167,13 @@ first-none test n = (
       omega (arith, first-only test n 0 (first test n 0) n (first-is test n 0) all),
 )
 
+pub some-none : (test : ℕ → Bool) (n : ℕ) → (some test n ≡ false) ↔ ((i : ℕ) → i < n → test i ≡ false)
+some-none test n = (λ e. first-none test n .0 (ltb-false (first test n 0) n e), λ h. le-ltb (first test n 0) n (first-none test n .1 h))
+
 pub exceeds-none : (n : ℕ) (f most : ℕ → ℕ) → (exceeds n f most ≡ false) ↔ ((i : ℕ) → i < n → f i ≤ most i)
 exceeds-none n f most = (
-  λ e i l. ltb-false (most i) (f i) (first-none (above f most) n .0 (ltb-false (first (above f most) n 0) n e) i l),
-  λ h. le-ltb (first (above f most) n 0) n (first-none (above f most) n .1 (λ i l. le-ltb (most i) (f i) (h i l))),
+  λ e i l. ltb-false (most i) (f i) (some-none (above f most) n .0 e i l),
+  λ h. some-none (above f most) n .1 (λ i l. le-ltb (most i) (f i) (h i l)),
 )
 
 -- before place i there is none: the search from 0 is the search from i

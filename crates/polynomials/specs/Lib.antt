@@ -1,4 +1,5 @@
 -- Lists of whole numbers as polynomials. Definitions first, then the laws that speak of them; each file opens with its notions.
+pub mod Tests
 pub mod Indices
 pub mod Lists
 pub mod Places

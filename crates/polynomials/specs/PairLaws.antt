@@ -131,7 +131,7 @@ module _ (m n : ℕ) (hn : 0 < n) where
   quotient-full : m % n + 1 ≡ n → (m + 1) / n * n ≡ m + 1
   quotient-full h = omega (arith, div-add-mod' (m + 1) n, remainder-full h)
 
-module _ (n : ℕ) (hn : 0 < n) (cs : List Pair) where
+module _ {A : Type 0} (n : ℕ) (hn : 0 < n) (cs : List A) where
   pub inside : inBatches n cs ≤ length cs
   inside = omega (arith, div-add-mod' (length cs) n)
 
@@ -141,7 +141,7 @@ module _ (n : ℕ) (hn : 0 < n) (cs : List Pair) where
   pub open-few : length (openBatch n cs) ≡ length cs % n
   open-few = length-drop (inBatches n cs) cs ∙ omega (arith, div-add-mod' (length cs) n)
 
-  module _ (c : Pair) where
+  module _ (c : A) where
     one-more : length (cs ++ (c ∷ [])) ≡ length cs + 1
     one-more = length-append cs (c ∷ [])
 

@@ -12,11 +12,11 @@ use Rattle.polynomials.specs.Blocks.{block, pairsUpto}
 abbrev pub pairsOf : ℕ → List ℕ → List ℕ → List Pair
 pairsOf k xs ys = pairsUpto (length xs / k) (block k xs) (block k ys)
 
-abbrev pub inBatches : ℕ → List Pair → ℕ
+abbrev pub inBatches : {A : Type 0} → ℕ → List A → ℕ
 inBatches n cs = length cs / n * n
 
-abbrev pub fullBatches : ℕ → List Pair → List Pair
+abbrev pub fullBatches : {A : Type 0} → ℕ → List A → List A
 fullBatches n cs = take (inBatches n cs) cs
 
-abbrev pub openBatch : ℕ → List Pair → List Pair
+abbrev pub openBatch : {A : Type 0} → ℕ → List A → List A
 openBatch n cs = drop (inBatches n cs) cs

@@ -2,8 +2,8 @@
 // refusal that product gives, and prints what came. Lists are lent with sevens in them, and printed as far as they were lent; of a list of
 // more than 16 coefficients its length and its digest are printed.
 use packed::products::product;
-use packed::setting::Setting;
 use samples::fill;
+use settings::setting::Setting;
 
 fn main() {
     show(3, 2, 4, 1, &[1, 2], &[2, 2], &mut [7; 3]);

@@ -7,8 +7,8 @@ use packed::running::Sum;
 use packed::running::close;
 use packed::running::feed;
 use packed::running::fresh;
-use packed::setting::Setting;
 use samples::fill;
+use settings::setting::Setting;
 
 const ALL: u64 = 18446744073709551615;
 

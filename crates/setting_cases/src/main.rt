@@ -1,9 +1,9 @@
 // Runs document 01's examples of choose and check, and inputs on both sides of every edge of 1 to 7, and prints what came.
-use packed::setting::Checked;
-use packed::setting::Chosen;
-use packed::setting::Setting;
-use packed::setting::check;
-use packed::setting::choose;
+use settings::setting::Checked;
+use settings::setting::Chosen;
+use settings::setting::Setting;
+use settings::setting::check;
+use settings::setting::choose;
 
 const ALL: u64 = 18446744073709551615;
 

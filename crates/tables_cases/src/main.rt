@@ -1,9 +1,9 @@
 // Runs document 01's example of a table, and build, reduce by table and pick on both sides of the edge of every refusal that they give, and
 // prints what came. Buffers are lent with sevens in them, and printed as far as they were lent.
-use packed::setting::Setting;
-use packed::tables::build;
-use packed::tables::pick;
-use packed::tables::reduce_by_table;
+use settings::setting::Setting;
+use tables::build;
+use tables::pick;
+use tables::reduce_by_table;
 
 const ALL: u64 = 18446744073709551615;
 

@@ -1,12 +1,11 @@
 -- `sax_sum` meets its contract: the setting is refused, or feed refuses, or all pairs are fed to a fresh record, which is closed. Assumes nothing.
 use mathlib.Core.Path.{_≡_, sym, ap, _∙_}
 use denote.Ref.{now}
-use Rattle.packed.specs.Answers.{fine}
-use Rattle.packed.specs.Settings.{settingChecks, checkedSays}
-use Rattle.packed.specs.Choices.{settingOf}
-use Rattle.packed.specs.Running.{Feeds, freshSum, recordOf, takenSays}
-use Rattle.packed.specs.DemandThree.{fresh-coherent}
-use Rattle.packed.specs.declared.setting.Setting.{Setting}
+use Rattle.settings.specs.Answers.{fine}
+use Rattle.settings.specs.Settings.{settingChecks, checkedSays, settingOf}
+use Rattle.packed.specs.Running.{Feeds, freshSum, recordOf, countedSays}
+use Rattle.packed.specs.Joining.{fresh-coherent}
+use Rattle.settings.specs.declared.setting.Setting.{Setting}
 use Rattle.exports.specs.SumLaws.{sum-unset, sum-unfed, sum-closed}
 use borrow.Author.Needs.{needs}
 use Rattle.exports.proofs.sax_sum.Statement.{statement}
@@ -59,7 +58,7 @@ returns-2 : tie.Need-returns-2
 returns-2 c =
     let f = c .before .before .before .before in
     let a = start f .args in
-    let why = ap takenSays (c .before .before .taken .given .1) in
+    let why = ap countedSays (c .before .before .taken .given .1) in
     rw (c .of-refusal2 .ensures) (sum-unfed (setting (start f)) (now (a .xs)) (now (a .ys)) (now (a .out)) (accepted (f .before)) (f .feed-in-calls .result) (fed f) _ _ why)
 
 enum-told-2 : tie.Need-enum-told-2
@@ -79,7 +78,7 @@ returns-3 c =
     let f = c .before .before .before .before .before .before .before in
     let close = c .before .before .before .close in
     let a = start f .args in
-    let took = ap takenSays (c .before .before .before .before .before .enum-told2 .given .1) in
+    let took = ap countedSays (c .before .before .before .before .before .enum-told2 .given .1) in
     rw (c .of-closed .ensures) (sum-closed (setting (start f)) (now (a .xs)) (now (a .ys)) (now (a .out)) (accepted (f .before)) (f .feed-in-calls .result) (fed f) _ (close .result) (close .last .1 .0) took (close .ensures))
 
 pub sax-sum-spec : {M : Type 1} → statement M

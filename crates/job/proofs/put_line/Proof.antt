@@ -6,12 +6,12 @@ use native.Mathlib.Omega.{arith}
 use lib.ListN.{length, drop}
 use borrow.Author.Needs.{needs}
 use borrow.Author.Tests.{le-ltb}
-use Rattle.packed.specs.Answers.{answered, fine}
-use Rattle.packed.specs.AnswerLaws.{never}
-use Rattle.packed.specs.SharedAnswers.{wroteSays}
-use Rattle.packed.specs.declared.refusals.Refusal.{Refusal}
-use Rattle.packed.specs.declared.answers.Wrote.{Wrote}
-use Rattle.packed.specs.declared.answers.Wrote.the-variants as inWrote
+use Rattle.settings.specs.Answers.{answered, fine}
+use Rattle.settings.specs.AnswerLaws.{never}
+use Rattle.settings.specs.SharedAnswers.{wroteSays}
+use Rattle.settings.specs.declared.refusals.Refusal.{Refusal}
+use Rattle.settings.specs.declared.answers.Wrote.{Wrote}
+use Rattle.settings.specs.declared.answers.Wrote.the-variants as inWrote
 use Rattle.jobs.specs.States.{lineOf, finishChecks, Finishes}
 use Rattle.jobs.specs.Texts.{longestLine}
 use Rattle.jobs.specs.FinishLaws.{line-fits}

@@ -7,8 +7,8 @@ use lib.ListN.{length, length-reverse}
 use lib.Seq.{length-take-le, take-at}
 use denote.Ref.{now}
 use borrow.Author.Needs.{needs}
-use Rattle.packed.specs.Answers.{answered, fine}
-use Rattle.packed.specs.Settings.{checkedSays}
+use Rattle.settings.specs.Answers.{answered, fine}
+use Rattle.settings.specs.Settings.{checkedSays}
 use Rattle.divisions.specs.ReverseLaws.{reverse-below}
 use Rattle.labels.specs.Labels.{readChecks, passes}
 use Rattle.labels.specs.Working.{Polynomial}
@@ -20,7 +20,7 @@ use Rattle.labels.proofs.check.Tie as tie
 -- ---- what is known on the way
 
 fine-so-far : (c : tie.After-enum-told) → readChecks (c .before .before .before .before .args .level) (now (c .before .before .before .before .args .words)) ≡ fine
-fine-so-far c = sym (c .before .before .check-words .ensures) ∙ ap checkedSays (c .enum-told .given .1)
+fine-so-far c = sym (c .before .before .check-label .ensures) ∙ ap checkedSays (c .enum-told .given .1)
 
 readable : (c : tie.After-enum-told) → Readable (c .before .before .before .before .args .level) (now (c .before .before .before .before .args .words))
 readable c = read-passed (c .before .before .before .before .args .level) (now (c .before .before .before .before .args .words)) (fine-so-far c)
@@ -39,14 +39,14 @@ answer c = c .vanishes .ensures ∙ rw (c .before .before .check-count .ensures,
 
 -- ---- the needs
 
-check-words-requires : tie.Need-check-words-requires
-check-words-requires c κs = search needs
+check-label-requires : tie.Need-check-label-requires
+check-label-requires c κs = search needs
 
 enum-known-r : tie.Need-enum-known-r
 enum-known-r c = search needs
 
 returns : tie.Need-returns
-returns c = rw (sym (c .before .before .before .check-words .ensures) ∙ ap checkedSays (c .before .r .given .1))
+returns c = rw (sym (c .before .before .before .check-label .ensures) ∙ ap checkedSays (c .before .r .given .1))
 
 enum-told : tie.Need-enum-told
 enum-told c = search needs
@@ -85,7 +85,7 @@ pub check-spec : {M : Type 1} → statement M
 check-spec =
     tie.close
     (tie.spec
-    check-words-requires
+    check-label-requires
     enum-known-r
     returns
     enum-told

@@ -5,9 +5,9 @@ use native.Mathlib.Omega.{arith}
 use lib.ListN.{length}
 use denote.Ref.{now}
 use borrow.Author.Needs.{needs}
-use Rattle.packed.specs.Answers.{fine}
-use Rattle.packed.specs.SharedAnswers.{writes-nothing}
-use Rattle.packed.specs.Settings.{checkedSays}
+use Rattle.settings.specs.Answers.{fine}
+use Rattle.settings.specs.SharedAnswers.{writes-nothing}
+use Rattle.settings.specs.Settings.{checkedSays}
 use Rattle.polynomials.specs.Lists.{part}
 use Rattle.polynomials.specs.ListLaws.{length-part}
 use Rattle.labels.specs.Labels.{checkCount, writeChecks, label}

@@ -1,8 +1,8 @@
 -- `make` meets its contract. Assumes nothing.
 use mathlib.Core.Path.{_≡_, sym, ap, _∙_}
 use borrow.Author.Needs.{needs}
-use Rattle.packed.specs.Answers.{fine}
-use Rattle.packed.specs.Settings.{checkedSays}
+use Rattle.settings.specs.Answers.{fine}
+use Rattle.settings.specs.Settings.{checkedSays}
 use Rattle.lane.specs.Lanes.{makeChecks}
 use Rattle.lane.specs.LaneLaws.{lane-bounds}
 use Rattle.lane.proofs.make.Statement.{statement}

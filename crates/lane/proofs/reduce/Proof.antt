@@ -3,9 +3,9 @@ use mathlib.Core.Path.{_≡_, sym, _∙_}
 use mathlib.Core.Bool.{true, false}
 use lib.Ieee.{Float}
 use borrow.Author.Needs.{needs}
-use Rattle.packed.specs.Answers.{refused, fine}
+use Rattle.settings.specs.Answers.{refused, fine}
 use Rattle.lane.specs.Lanes.{heldCause, improperCause, reduceChecks}
-use Rattle.lane.specs.LaneLaws.{working}
+use Rattle.lane.specs.LaneLaws.{lane-proper}
 use Rattle.lane.specs.ResidueLaws.{reducing}
 use Rattle.lane.specs.declared.Lane.{Lane}
 use Rattle.lane.proofs.reduce.Statement.{statement}
@@ -43,7 +43,7 @@ returns c = rw (at-12 (c .before .before .args .lane) (c .before .before .args .
 
 improper-cause-requires : tie.Need-improper-cause-requires
 improper-cause-requires c κs =
-    working (c .before .before .args .lane) (record { modulus = search needs; base = search needs; inverse = search needs }) (made c) .within
+    lane-proper (c .before .before .args .lane) (record { modulus = search needs; base = search needs; inverse = search needs }) (made c) .within
 
 returns-2 : tie.Need-returns-2
 returns-2 c =

@@ -2,14 +2,14 @@
 use mathlib.Core.Path.{_≡_, sym, ap, _∙_}
 use denote.Ref.{now}
 use borrow.Author.Needs.{needs}
-use Rattle.packed.specs.Answers.{fine}
-use Rattle.packed.specs.Settings.{checkedSays}
-use Rattle.lane.specs.Lanes.{sumChecks}
+use Rattle.settings.specs.Answers.{fine}
+use Rattle.settings.specs.Settings.{checkedSays}
+use Rattle.lane.specs.Lanes.{laneSumChecks}
 use Rattle.lane.specs.SumLaws.{summing}
 use Rattle.lane.proofs.sum.Statement.{statement}
 use Rattle.lane.proofs.sum.Tie as tie
 
-passed : (c : tie.After-enum-told) → let a = c .before .before .before .before .before .args in sumChecks (a .lane) (now (a .xs)) (now (a .ys)) ≡ fine
+passed : (c : tie.After-enum-told) → let a = c .before .before .before .before .before .args in laneSumChecks (a .lane) (now (a .xs)) (now (a .ys)) ≡ fine
 passed c = sym (c .before .before .check-sum .ensures) ∙ ap checkedSays (c .enum-told .given .1)
 
 check-sum-requires : tie.Need-check-sum-requires

@@ -9,12 +9,12 @@ use denote.Ref.{now}
 use borrow.Author.Needs.{needs}
 use Rattle.polynomials.specs.Indices.{filled}
 use Rattle.polynomials.specs.IndexLaws.{filled-more}
-use Rattle.samples.specs.Samples.{reducedBy, powerAt, sampleAt, power-next}
+use Rattle.samples.specs.Samples.{reducedBy, samplePower, sampleAt, power-next}
 use Rattle.samples.proofs.fill.Statement.{statement}
 use Rattle.samples.proofs.fill.Tie as tie
 
 abbrev Inv-loop : tie.InvT-loop
-Inv-loop p c xs₀ x₀ i₀ xs x i = (i ≤ length xs₀) × (xs ≡ filled i (sampleAt p c) xs₀) × (length xs ≡ length xs₀) × (x ≡ powerAt c i)
+Inv-loop p c xs₀ x₀ i₀ xs x i = (i ≤ length xs₀) × (xs ≡ filled i (sampleAt p c) xs₀) × (length xs ≡ length xs₀) × (x ≡ samplePower c i)
 
 abbrev μ-loop : tie.MeasureT-loop
 μ-loop p c xs₀ x₀ i₀ xs x i = length xs₀ - i

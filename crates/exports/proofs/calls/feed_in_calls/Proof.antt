@@ -4,7 +4,7 @@ use native.Mathlib.Nat.{mul-le-mul-right, mul-pos, div-add-mod'}
 use native.Mathlib.Omega.{arith}
 use lib.ListN.{length}
 use denote.Ref.{now}
-use Rattle.packed.specs.Bounds.{bounds}
+use Rattle.settings.specs.Bounds.{bounds}
 use borrow.Author.Needs.{needs}
 use Rattle.exports.proofs.calls.feed_in_calls.Statement.{statement}
 use Rattle.exports.proofs.calls.feed_in_calls.Tie as tie

@@ -14,10 +14,10 @@ use borrow.Author.Needs.{needs}
 use borrow.Author.Tests.{lt-ltb, le-ltb}
 use Rattle.polynomials.specs.Indices.{upto}
 use Rattle.polynomials.specs.Lists.{coefficient}
-use Rattle.packed.specs.Answers.{fine}
-use Rattle.packed.specs.Coefficients.{firstBad}
+use Rattle.settings.specs.Answers.{fine}
+use Rattle.settings.specs.Coefficients.{firstBad}
 use Rattle.packed.specs.Running.{recordOf}
-use Rattle.packed.specs.declared.setting.Setting.{Setting}
+use Rattle.settings.specs.declared.setting.Setting.{Setting}
 use Rattle.packed.specs.declared.running.Sum.{Sum}
 use Rattle.packed.specs.declared.running.Record.{Record}
 use Rattle.jobs.specs.Jobs.{coefficientsIn}

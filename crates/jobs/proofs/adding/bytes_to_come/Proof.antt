@@ -3,7 +3,7 @@ use native.Mathlib.Nat.{mul-le-mul, lt-of-le-of-lt}
 use native.Mathlib.Omega.{arith}
 use lib.Dec.{lit<}
 use borrow.Author.Needs.{needs}
-use Rattle.packed.specs.Limits.{mostPairs}
+use Rattle.settings.specs.Limits.{mostPairs}
 use Rattle.jobs.proofs.adding.bytes_to_come.Statement.{statement}
 use Rattle.jobs.proofs.adding.bytes_to_come.Tie as tie
 

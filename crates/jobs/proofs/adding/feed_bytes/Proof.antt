@@ -6,12 +6,12 @@ use lib.ListN.{length}
 use denote.Ref.{now}
 use borrow.Author.Needs.{needs}
 use Rattle.jobs.specs.AddingLaws.{k-some, k-few}
-use Rattle.jobs.specs.FeedLaws.{FedSoFar, blockBytes, fed-none, fed-all, fed-block-fits, fed-more, some-more, block-bytes-most}
+use Rattle.jobs.specs.FeedLaws.{BytesFed, blockBytes, bytes-fed-none, bytes-fed-all, fed-block-fits, bytes-fed-more, some-more, block-bytes-most}
 use Rattle.jobs.proofs.adding.feed_bytes.Statement.{statement}
 use Rattle.jobs.proofs.adding.feed_bytes.Tie as tie
 
 abbrev Inv-loop : tie.InvT-loop
-Inv-loop bytes most fed₀ i₀ fed i = FedSoFar (fed₀ .setting) (fed₀ .sum) bytes fed i
+Inv-loop bytes most fed₀ i₀ fed i = BytesFed (fed₀ .setting) (fed₀ .sum) bytes fed i
 
 abbrev μ-loop : tie.MeasureT-loop
 μ-loop bytes most fed₀ i₀ fed i = length bytes - i
@@ -26,7 +26,7 @@ mul-most : tie.Need-mul-most Inv-loop μ-loop
 mul-most c = rw (c .pair-bytes .ensures) (omega (arith, block-bytes-most (c .before .before .before .args .running .setting .k)))
 
 loop-holds : tie.Need-loop-holds Inv-loop μ-loop
-loop-holds c = fed-none (c .before .before .before .args .running .setting) (c .before .before .before .args .running .sum) (now (c .before .before .before .args .bytes)) (c .before .before .before .pre)
+loop-holds c = bytes-fed-none (c .before .before .before .args .running .setting) (c .before .before .before .args .running .sum) (now (c .before .before .before .args .bytes)) (c .before .before .before .pre)
 
 sub-least : tie.Need-sub-least Inv-loop μ-loop
 sub-least c = c .before .loop .inv .most
@@ -60,10 +60,10 @@ loop-less : tie.Need-loop-less Inv-loop μ-loop
 loop-less c = omega (arith, some-more (c .before .before .before .before .before .before .before .before .args .running .setting) (c .before .before .before .before .before .before .before .before .args .running .sum) (now (c .before .before .before .before .before .before .before .before .args .bytes)) (c .before .before .before .before .before .before .before .before .pre) (c .before .before .before .before .loop .fed) (c .before .before .before .before .loop .i) (c .before .before .least .result) (c .before .before .before .before .loop .inv) (size (c .before .before)) (c .before .before .before .loop-test .taken), end-inside (c .before .before))
 
 loop-again : tie.Need-loop-again Inv-loop μ-loop
-loop-again c = fed-more (c .before .before .before .before .before .before .before .before .args .running .setting) (c .before .before .before .before .before .before .before .before .args .running .sum) (now (c .before .before .before .before .before .before .before .before .args .bytes)) (c .before .before .before .before .before .before .before .before .pre) (c .before .before .before .before .loop .fed) (c .before .before .before .before .loop .i) (c .before .before .least .result) (c .before .before .before .before .loop .inv) (size (c .before .before)) (c .feed-block .result) (c .feed-block .ensures)
+loop-again c = bytes-fed-more (c .before .before .before .before .before .before .before .before .args .running .setting) (c .before .before .before .before .before .before .before .before .args .running .sum) (now (c .before .before .before .before .before .before .before .before .args .bytes)) (c .before .before .before .before .before .before .before .before .pre) (c .before .before .before .before .loop .fed) (c .before .before .before .before .loop .i) (c .before .before .least .result) (c .before .before .before .before .loop .inv) (size (c .before .before)) (c .feed-block .result) (c .feed-block .ensures)
 
 returns : tie.Need-returns Inv-loop μ-loop
-returns c = fed-all (c .before .before .before .before .before .args .running .setting) (c .before .before .before .before .before .args .running .sum) (now (c .before .before .before .before .before .args .bytes)) (c .before .before .before .before .before .pre) (c .before .loop .fed) (c .before .loop .i) (c .before .loop .inv) (c .loop-test .left)
+returns c = bytes-fed-all (c .before .before .before .before .before .args .running .setting) (c .before .before .before .before .before .args .running .sum) (now (c .before .before .before .before .before .args .bytes)) (c .before .before .before .before .before .pre) (c .before .loop .fed) (c .before .loop .i) (c .before .loop .inv) (c .loop-test .left)
 
 pub feed-bytes-spec : {M : Type 1} → statement M
 feed-bytes-spec =

@@ -3,7 +3,7 @@ use Prim.Native.Nat.{ℕ, _*_, _≤_}
 use native.Mathlib.Nat.{mul-le-mul}
 use native.Mathlib.Omega.{arith}
 use borrow.Author.Needs.{needs}
-use Rattle.packed.specs.Limits.{mostPairs}
+use Rattle.settings.specs.Limits.{mostPairs}
 use Rattle.jobs.proofs.adding.index_in_job.Statement.{statement}
 use Rattle.jobs.proofs.adding.index_in_job.Tie as tie
 

@@ -7,35 +7,35 @@ use Rattle.jobs.specs.ByteLaws.{coefficientsIn-at}
 use Rattle.jobs.proofs.bytes.coefficient_at.Statement.{statement}
 use Rattle.jobs.proofs.bytes.coefficient_at.Tie as tie
 
-room : (c : tie.After-wide2) → c .before .before .wide .result * 256 + c .wide2 .result < 65536
+room : (c : tie.After-wide-byte2) → c .before .before .wide-byte .result * 256 + c .wide-byte2 .result < 65536
 room c =
     let k = c .before .before .before .before in
     let i = k .before .args .i in
     omega (arith, k .shared-slice-known .given (2 * i), k .shared-slice-known .given (2 * i + 1))
 
-mul-wide : tie.Need-mul-wide
-mul-wide c = search needs
+mul-wide-byte : tie.Need-mul-wide-byte
+mul-wide-byte c = search needs
 
-shared-slice-read-wide : tie.Need-shared-slice-read-wide
-shared-slice-read-wide c = search needs
+shared-slice-read-wide-byte : tie.Need-shared-slice-read-wide-byte
+shared-slice-read-wide-byte c = search needs
 
-wide-requires : tie.Need-wide-requires
-wide-requires c κs = search needs
+wide-byte-requires : tie.Need-wide-byte-requires
+wide-byte-requires c κs = search needs
 
 mul-result : tie.Need-mul-result
 mul-result c = omega (arith, c .before .before .shared-slice-known .given (2 * c .before .before .before .args .i))
 
-mul-wide-2 : tie.Need-mul-wide-2
-mul-wide-2 c = search needs
+mul-wide-byte-2 : tie.Need-mul-wide-byte-2
+mul-wide-byte-2 c = search needs
 
-add-wide : tie.Need-add-wide
-add-wide c = search needs
+add-wide-byte : tie.Need-add-wide-byte
+add-wide-byte c = search needs
 
-shared-slice-read-wide-2 : tie.Need-shared-slice-read-wide-2
-shared-slice-read-wide-2 c = search needs
+shared-slice-read-wide-byte-2 : tie.Need-shared-slice-read-wide-byte-2
+shared-slice-read-wide-byte-2 c = search needs
 
-wide-requires-2 : tie.Need-wide-requires-2
-wide-requires-2 c κs = search needs
+wide-byte-requires-2 : tie.Need-wide-byte-requires-2
+wide-byte-requires-2 c κs = search needs
 
 add-result : tie.Need-add-result
 add-result c = omega (arith, room c)
@@ -52,14 +52,14 @@ pub coefficient-at-spec : {M : Type 1} → statement M
 coefficient-at-spec =
     tie.close
     (tie.spec
-    mul-wide
-    shared-slice-read-wide
-    wide-requires
+    mul-wide-byte
+    shared-slice-read-wide-byte
+    wide-byte-requires
     mul-result
-    mul-wide-2
-    add-wide
-    shared-slice-read-wide-2
-    wide-requires-2
+    mul-wide-byte-2
+    add-wide-byte
+    shared-slice-read-wide-byte-2
+    wide-byte-requires-2
     add-result
     cast-result
     returns)

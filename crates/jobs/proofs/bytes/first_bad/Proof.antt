@@ -10,7 +10,7 @@ use borrow.Author.Needs.{needs}
 use borrow.Author.Tests.{lt-leb}
 use Rattle.polynomials.specs.IndexLaws.{first-is, first-none}
 use Rattle.polynomials.specs.Lists.{coefficient}
-use Rattle.packed.specs.Coefficients.{tooLarge, firstBad, NoneAbove}
+use Rattle.settings.specs.Coefficients.{tooLarge, firstBad, NoneAbove}
 use Rattle.jobs.specs.Jobs.{coefficientsIn}
 use Rattle.jobs.specs.ByteLaws.{length-coefficientsIn}
 use Rattle.jobs.proofs.bytes.first_bad.Statement.{statement}

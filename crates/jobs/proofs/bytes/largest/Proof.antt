@@ -7,7 +7,7 @@ use denote.Ref.{now}
 use borrow.Author.Needs.{needs}
 use Rattle.polynomials.specs.Lists.{coefficient}
 use Rattle.jobs.specs.Jobs.{coefficientsIn}
-use Rattle.packed.specs.Coefficients.{none-above-more, none-above-all}
+use Rattle.settings.specs.Coefficients.{none-above-more, none-above-all}
 use Rattle.jobs.specs.ByteLaws.{length-coefficientsIn, Bounded, bounded-none, bounded-more}
 use Rattle.jobs.proofs.bytes.largest.Statement.{statement}
 use Rattle.jobs.proofs.bytes.largest.Tie as tie

@@ -10,7 +10,7 @@ use borrow.Author.Tests.{le-leb, lt-leb}
 use Rattle.polynomials.specs.Indices.{first}
 use Rattle.polynomials.specs.IndexLaws.{first-found, first-passed, first-ended}
 use Rattle.polynomials.specs.Lists.{coefficient}
-use Rattle.packed.specs.Coefficients.{tooLarge, firstBad}
+use Rattle.settings.specs.Coefficients.{tooLarge, firstBad}
 use Rattle.jobs.specs.Jobs.{coefficientsIn}
 use Rattle.jobs.specs.ByteLaws.{length-coefficientsIn}
 use Rattle.jobs.proofs.bytes.search.Statement.{statement}

@@ -3,7 +3,7 @@ use Prim.Native.Nat.{ℕ, _-_, _≤_, _<_}
 use native.Mathlib.Omega.{arith}
 use borrow.Author.Needs.{needs}
 use Rattle.polynomials.specs.Lists.{coefficient}
-use Rattle.packed.specs.Coefficients.{none-above-more, none-above-all}
+use Rattle.settings.specs.Coefficients.{none-above-more, none-above-all}
 use Rattle.jobs.proofs.bytes.top.Statement.{statement}
 use Rattle.jobs.proofs.bytes.top.Tie as tie
 

@@ -10,13 +10,13 @@ use lib.Seq.{length-take-le}
 use borrow.Author.Needs.{needs}
 use borrow.Author.Tests.{lt-ltb, le-ltb, le-leb, lt-leb}
 use Rattle.polynomials.specs.IndexLaws.{length-upto}
-use Rattle.packed.specs.Limits.{mostPairs}
-use Rattle.packed.specs.Settings.{InChoice}
-use Rattle.packed.specs.Coefficients.{firstBad}
-use Rattle.packed.specs.Bounds.{bounds}
+use Rattle.settings.specs.Limits.{mostPairs}
+use Rattle.settings.specs.Settings.{InChoice}
+use Rattle.settings.specs.Coefficients.{firstBad}
+use Rattle.settings.specs.Bounds.{bounds}
 use Rattle.packed.specs.Running.{recordCause}
 use Rattle.packed.specs.RunningLaws.{coherent-is}
-use Rattle.packed.specs.declared.setting.Setting.{Setting}
+use Rattle.settings.specs.declared.setting.Setting.{Setting}
 use Rattle.packed.specs.declared.running.Sum.{Sum}
 use Rattle.packed.specs.declared.running.Record.{Record}
 use Rattle.jobs.specs.Jobs.{pairBytes, coefficientsIn}

@@ -34,16 +34,16 @@ returns-6 c =
     let r = c .before .before .before .before .before .before .before .before .before .before .before .before .before .before .args .running in
     rw (eq-eqb (r .setting .p) 0 (c .before .before .before .before .before .before .before .before .before .before .if1 .left), eq-eqb (r .setting .k) 0 (c .before .before .before .before .before .before .before .before .if2 .left), eq-eqb (r .setting .t) 0 (c .before .before .before .before .before .before .if3 .left), eq-eqb (r .setting .n) 0 (c .before .before .before .before .if4 .left), eq-eqb (r .sum .total) 0 (c .before .before .if5 .left), ne-eqb (r .sum .word) 0 (c .if6 .taken))
 
-slice-aggregate-residues-cause : tie.Need-slice-aggregate-residues-cause
-slice-aggregate-residues-cause c = search needs
+slice-aggregate-nonzero-cause : tie.Need-slice-aggregate-nonzero-cause
+slice-aggregate-nonzero-cause c = search needs
 
-residues-cause-requires : tie.Need-residues-cause-requires
-residues-cause-requires c κs = search needs
+nonzero-cause-requires : tie.Need-nonzero-cause-requires
+nonzero-cause-requires c κs = search needs
 
 returns-7 : tie.Need-returns-7
 returns-7 c =
     let r = c .before .before .before .before .before .before .before .before .before .before .before .before .before .before .before .before .before .args .running in
-    rw (eq-eqb (r .setting .p) 0 (c .before .before .before .before .before .before .before .before .before .before .before .before .before .if1 .left), eq-eqb (r .setting .k) 0 (c .before .before .before .before .before .before .before .before .before .before .before .if2 .left), eq-eqb (r .setting .t) 0 (c .before .before .before .before .before .before .before .before .before .if3 .left), eq-eqb (r .setting .n) 0 (c .before .before .before .before .before .before .before .if4 .left), eq-eqb (r .sum .total) 0 (c .before .before .before .before .before .if5 .left), eq-eqb (r .sum .word) 0 (c .before .before .before .if6 .left)) (c .residues-cause .ensures)
+    rw (eq-eqb (r .setting .p) 0 (c .before .before .before .before .before .before .before .before .before .before .before .before .before .if1 .left), eq-eqb (r .setting .k) 0 (c .before .before .before .before .before .before .before .before .before .before .before .if2 .left), eq-eqb (r .setting .t) 0 (c .before .before .before .before .before .before .before .before .before .if3 .left), eq-eqb (r .setting .n) 0 (c .before .before .before .before .before .before .before .if4 .left), eq-eqb (r .sum .total) 0 (c .before .before .before .before .before .if5 .left), eq-eqb (r .sum .word) 0 (c .before .before .before .if6 .left)) (c .nonzero-cause .ensures)
 
 pub blank-cause-spec : {M : Type 1} → statement M
 blank-cause-spec =
@@ -55,6 +55,6 @@ blank-cause-spec =
     returns-4
     returns-5
     returns-6
-    slice-aggregate-residues-cause
-    residues-cause-requires
+    slice-aggregate-nonzero-cause
+    nonzero-cause-requires
     returns-7)

@@ -5,21 +5,21 @@ use mathlib.Core.List.{[]}
 use native.Mathlib.Nat.{zero-div, zero-mod, add-zero}
 use native.Mathlib.Omega.{arith}
 use borrow.Author.Needs.{needs}
-use Rattle.packed.specs.Answers.{refused, refuses}
-use Rattle.packed.specs.Bounds.{bounds}
-use Rattle.packed.specs.Feeding.{Feeding}
-use Rattle.packed.specs.Running.{recordCause, Coherent, pairChecks, feedChecks, takenSays, Feeds}
+use Rattle.settings.specs.Answers.{refused, refuses}
+use Rattle.settings.specs.Bounds.{bounds}
+use Rattle.packed.specs.FedPairs.{PairsToFeed}
+use Rattle.packed.specs.Running.{recordCause, Coherent, pairChecks, feedChecks, countedSays, Feeds}
 use Rattle.packed.specs.RunningLaws.{coherent-is}
 use Rattle.packed.specs.RunningChecks.{pairs-pass, feed-refused, feed-fine}
 use Rattle.packed.specs.declared.running.Record.{Record}
 use Rattle.packed.specs.declared.running.Fed.{Fed}
-use Rattle.packed.specs.declared.running.Taken.{Taken}
+use Rattle.packed.specs.declared.running.Counted.{Counted}
 use Rattle.jobs.proofs.coherent.record_cause.Statement.{statement}
 use Rattle.jobs.proofs.coherent.record_cause.Tie as tie
 
 -- ---- on plain values
 
-nothing-fed : (r : Record) → Coherent (r .setting) (r .sum) → Feeding (r .setting) (r .sum) [] []
+nothing-fed : (r : Record) → Coherent (r .setting) (r .sum) → PairsToFeed (r .setting) (r .sum) [] []
 nothing-fed r h =
     let low = bounds (r .setting) (h .accepted) .range .choice .p-low in
     record {
@@ -35,8 +35,8 @@ refused-first : (r : Record) → recordCause r ≡ true → feedChecks r [] [] �
 unfolding pairChecks
 refused-first r e = feed-refused r [] [] 12 0 (rw e)
 
-abbrev said : Taken → Bool
-said a = refuses (takenSays a)
+abbrev said : Counted → Bool
+said a = refuses (countedSays a)
 
 -- feed refuses nothing exactly where the record is coherent
 told : (r : Record) (f : Fed) → Feeds r [] [] f → said (f .answer) ≡ recordCause r

@@ -1,6 +1,6 @@
 -- `state_cause` meets its contract. Assumes nothing.
 use mathlib.Core.Path.{_≡_, _∙_}
-use Rattle.packed.specs.declared.refusals.Refusal.{Refusal}
+use Rattle.settings.specs.declared.refusals.Refusal.{Refusal}
 use Rattle.jobs.specs.States.{headingCause, settledCause, addingCause, stateCause}
 use Rattle.jobs.specs.declared.state.State.{State}
 use Rattle.jobs.specs.declared.state.Stage.the-variants as inStage

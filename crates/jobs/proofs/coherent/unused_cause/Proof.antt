@@ -22,14 +22,14 @@ loop-holds c = exceeds-first (length (now (c .before .args .held))) (coefficient
 held-most-requires : tie.Need-held-most-requires Inv-loop μ-loop
 held-most-requires c κs = search needs
 
-shared-slice-read-wide : tie.Need-shared-slice-read-wide Inv-loop μ-loop
-shared-slice-read-wide c = search needs
+shared-slice-read-wide-byte : tie.Need-shared-slice-read-wide-byte Inv-loop μ-loop
+shared-slice-read-wide-byte c = search needs
 
-wide-requires : tie.Need-wide-requires Inv-loop μ-loop
-wide-requires c κs = search needs
+wide-byte-requires : tie.Need-wide-byte-requires Inv-loop μ-loop
+wide-byte-requires c κs = search needs
 
 returns : tie.Need-returns Inv-loop μ-loop
-returns c = sym (exceeds-found (length (now (c .before .before .before .before .before .before .before .args .held))) (coefficient (now (c .before .before .before .before .before .before .before .args .held))) (heldMost (c .before .before .before .before .before .before .before .args .size)) (c .before .before .before .before .before .loop .j) (c .before .before .before .before .loop-test .taken) (rw (c .before .before .before .held-most .ensures, c .before .wide .ensures) at (c .if1 .taken)) (c .before .before .before .before .before .loop .inv))
+returns c = sym (exceeds-found (length (now (c .before .before .before .before .before .before .before .args .held))) (coefficient (now (c .before .before .before .before .before .before .before .args .held))) (heldMost (c .before .before .before .before .before .before .before .args .size)) (c .before .before .before .before .before .loop .j) (c .before .before .before .before .loop-test .taken) (rw (c .before .before .before .held-most .ensures, c .before .wide-byte .ensures) at (c .if1 .taken)) (c .before .before .before .before .before .loop .inv))
 
 add-j : tie.Need-add-j Inv-loop μ-loop
 add-j c = search needs
@@ -38,7 +38,7 @@ loop-less : tie.Need-loop-less Inv-loop μ-loop
 loop-less c = search needs
 
 loop-again : tie.Need-loop-again Inv-loop μ-loop
-loop-again c = exceeds-passed (length (now (c .before .before .before .before .before .before .before .args .held))) (coefficient (now (c .before .before .before .before .before .before .before .args .held))) (heldMost (c .before .before .before .before .before .before .before .args .size)) (c .before .before .before .before .before .loop .j) (c .before .before .before .before .loop-test .taken) (rw (c .before .before .before .held-most .ensures, c .before .wide .ensures) at (c .if1 .left)) (c .before .before .before .before .before .loop .inv)
+loop-again c = exceeds-passed (length (now (c .before .before .before .before .before .before .before .args .held))) (coefficient (now (c .before .before .before .before .before .before .before .args .held))) (heldMost (c .before .before .before .before .before .before .before .args .size)) (c .before .before .before .before .before .loop .j) (c .before .before .before .before .loop-test .taken) (rw (c .before .before .before .held-most .ensures, c .before .wide-byte .ensures) at (c .if1 .left)) (c .before .before .before .before .before .loop .inv)
 
 returns-2 : tie.Need-returns-2 Inv-loop μ-loop
 returns-2 c = sym (exceeds-through (length (now (c .before .before .before .args .held))) (coefficient (now (c .before .before .before .args .held))) (heldMost (c .before .before .before .args .size)) (c .before .loop .j) (c .loop-test .left) (c .before .loop .inv))
@@ -51,8 +51,8 @@ unused-cause-spec =
     μ-loop
     loop-holds
     held-most-requires
-    shared-slice-read-wide
-    wide-requires
+    shared-slice-read-wide-byte
+    wide-byte-requires
     returns
     add-j
     loop-less

@@ -8,11 +8,11 @@ use lib.ListN.{length}
 use denote.Ref.{now}
 use borrow.Author.Needs.{needs}
 use borrow.Author.Tests.{lt-ltb, le-ltb, eq-eqb, ne-eqb}
-use Rattle.packed.specs.Limits.{mostPairs}
-use Rattle.packed.specs.Answers.{refused, fine, refuse, _andThen_}
-use Rattle.packed.specs.Settings.{settingChecks, checkedSays, InChoice}
-use Rattle.packed.specs.Bounds.{bounds}
-use Rattle.packed.specs.Running.{fullCause}
+use Rattle.settings.specs.Limits.{mostPairs}
+use Rattle.settings.specs.Answers.{refused, fine, refuse, _andThen_}
+use Rattle.settings.specs.Settings.{settingChecks, checkedSays, InChoice}
+use Rattle.settings.specs.Bounds.{bounds}
+use Rattle.packed.specs.Running.{recordFullCause}
 use Rattle.jobs.specs.Jobs.{headerBytes, lengthIn, versionIn, settingIn, pairBytes, declaredBytes, declaredPairs, raggedCause, headerChecks}
 use Rattle.jobs.proofs.header.check_header.Statement.{statement}
 use Rattle.jobs.proofs.header.check_header.Tie as tie
@@ -34,7 +34,7 @@ unfolding headerChecks
 at-length bs all version h = rw (le-ltb (length bs) headerBytes (omega arith), eq-eqb (versionIn bs) 1 version, lt-ltb (lengthIn bs) 11 h)
 
 module _ (bs : List ℕ) (b : Begun bs) where
-  from-setting : headerChecks bs ≡ (settingChecks (settingIn bs) andThen refuse (raggedCause bs) 17 0 andThen refuse (fullCause 0 (declaredPairs bs)) 13 0)
+  from-setting : headerChecks bs ≡ (settingChecks (settingIn bs) andThen refuse (raggedCause bs) 17 0 andThen refuse (recordFullCause 0 (declaredPairs bs)) 13 0)
   unfolding headerChecks
   from-setting = rw (le-ltb (length bs) headerBytes (omega (arith, b .all)), eq-eqb (versionIn bs) 1 (b .version), le-ltb (lengthIn bs) 11 (b .counted))
 
@@ -46,7 +46,7 @@ module _ (bs : List ℕ) (b : Begun bs) where
     at-ragged h = rw (from-setting, accepted, ne-eqb (declaredBytes bs % pairBytes (settingIn bs .k)) 0 h)
 
     module _ (whole : declaredBytes bs % pairBytes (settingIn bs .k) ≡ 0) where
-      from-full : headerChecks bs ≡ refuse (fullCause 0 (declaredPairs bs)) 13 0
+      from-full : headerChecks bs ≡ refuse (recordFullCause 0 (declaredPairs bs)) 13 0
       from-full = rw (from-setting, accepted, eq-eqb (declaredBytes bs % pairBytes (settingIn bs .k)) 0 whole)
 
       at-full : mostPairs < declaredPairs bs → refused 13 0 ≡ headerChecks bs

@@ -2,7 +2,7 @@
 use native.Mathlib.Omega.{arith}
 use denote.Ref.{now}
 use borrow.Author.Needs.{needs}
-use Rattle.packed.specs.Bounds.{bounds}
+use Rattle.settings.specs.Bounds.{bounds}
 use Rattle.jobs.specs.HeaderLaws.{Header, header-passed}
 use Rattle.jobs.proofs.header.declared_pairs.Statement.{statement}
 use Rattle.jobs.proofs.header.declared_pairs.Tie as tie

@@ -5,10 +5,10 @@ use mathlib.Core.List.{List, _++_}
 use lib.ListN.{length}
 use denote.Ref.{now}
 use borrow.Author.Needs.{needs}
-use Rattle.packed.specs.Answers.{refused, fine}
-use Rattle.packed.specs.Settings.{checkedSays}
+use Rattle.settings.specs.Answers.{refused, fine}
+use Rattle.settings.specs.Settings.{checkedSays}
 use Rattle.packed.specs.Running.{freshSum, recordOf}
-use Rattle.packed.specs.declared.setting.Setting.{Setting}
+use Rattle.settings.specs.declared.setting.Setting.{Setting}
 use Rattle.packed.specs.declared.running.Record.{Record}
 use Rattle.jobs.specs.Jobs.{headerBytes, settingIn, declaredPairs, headerChecks}
 use Rattle.jobs.specs.States.{settled, pairsAfter, headerAfter}

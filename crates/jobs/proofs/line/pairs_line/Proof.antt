@@ -4,7 +4,7 @@ use native.Mathlib.Omega.{arith}
 use lib.ListN.{length, replicate}
 use lib.Seq.{length-take-le}
 use borrow.Author.Needs.{needs}
-use Rattle.packed.specs.Settings.{InRange}
+use Rattle.settings.specs.Settings.{InRange}
 use Rattle.jobs.specs.Texts.{textOf}
 use Rattle.jobs.specs.FinishLaws.{adding-early, adding-range, closed-never, closed-short, closed-line}
 use Rattle.jobs.proofs.line.pairs_line.Statement.{statement}

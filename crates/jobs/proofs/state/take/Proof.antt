@@ -2,13 +2,13 @@
 use Prim.Native.Nat.{ℕ, _<_}
 use mathlib.Core.Path.{_≡_, sym, _∙_}
 use mathlib.Core.Bool.{true, false}
-use mathlib.Mathlib.Data.Bool.Basic.{or-eq-false-eq-eq-false-and-eq-false}
 use mathlib.Core.List.{List, _++_}
 use lib.Dec.{leb}
 use denote.Ref.{now}
 use borrow.Author.Needs.{needs}
 use borrow.Author.Tests.{leb-false}
-use Rattle.packed.specs.declared.refusals.Refusal.{Refusal}
+use Rattle.polynomials.specs.Tests.{neither}
+use Rattle.settings.specs.declared.refusals.Refusal.{Refusal}
 use Rattle.jobs.specs.Jobs.{headerBytes}
 use Rattle.jobs.specs.States.{heldIn, pairsAfter, headerAfter, addingCause, stateCause, takenBy}
 use Rattle.jobs.specs.declared.state.State.{State}
@@ -26,7 +26,7 @@ module _ (st : State) (piece : List ℕ) where
   module _ (ok : stateCause st ≡ false) where
     short : st .stage ≡ inStage.Header → st .size < headerBytes
     unfolding stateCause
-    short e = leb-false headerBytes (st .size) (or-eq-false-eq-eq-false-and-eq-false (leb headerBytes (st .size)) _ .0 (rw e at ok) .0)
+    short e = leb-false headerBytes (st .size) (neither (leb headerBytes (st .size)) _ (rw e at ok) .0)
 
     at-header : st .stage ≡ inStage.Header → headerAfter (heldIn st ++ piece) ≡ takenBy st piece
     unfolding takenBy

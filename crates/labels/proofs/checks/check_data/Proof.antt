@@ -6,9 +6,9 @@ use native.Mathlib.Omega.{arith}
 use lib.ListN.{length}
 use denote.Ref.{now}
 use borrow.Author.Needs.{needs}
-use Rattle.packed.specs.Answers.{fine}
-use Rattle.packed.specs.Settings.{checkedSays}
-use Rattle.packed.specs.Coefficients.{coefficientCheck}
+use Rattle.settings.specs.Answers.{fine}
+use Rattle.settings.specs.Settings.{checkedSays}
+use Rattle.settings.specs.Coefficients.{coefficientCheck}
 use Rattle.labels.specs.Labels.{modulus, highestLevel, mostWords, checkCount}
 use Rattle.labels.specs.CheckLaws.{count-most, write-level, write-few, write-many, write-bad, write-short, write-fine}
 use Rattle.labels.proofs.checks.check_data.Statement.{statement}

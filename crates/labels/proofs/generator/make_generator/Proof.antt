@@ -6,12 +6,12 @@ use lib.ListN.{length, set, length-set}
 use denote.Ref.{now}
 use borrow.Author.Needs.{needs}
 use Rattle.labels.specs.RootLaws.{table-size}
-use Rattle.labels.specs.GeneratorLaws.{Made, making-begun, making-size, making-below, making-turn, making-ended}
+use Rattle.labels.specs.GeneratorLaws.{GeneratorUpTo, making-begun, making-size, making-below, making-turn, making-ended}
 use Rattle.labels.proofs.generator.make_generator.Statement.{statement}
 use Rattle.labels.proofs.generator.make_generator.Tie as tie
 
 abbrev Inv-loop : tie.InvT-loop
-Inv-loop out₀ table j₀ out j = Made out₀ j out
+Inv-loop out₀ table j₀ out j = GeneratorUpTo out₀ j out
 
 abbrev μ-loop : tie.MeasureT-loop
 μ-loop out₀ table j₀ out j = length out₀ - j

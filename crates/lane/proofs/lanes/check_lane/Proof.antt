@@ -3,10 +3,10 @@ use Prim.Native.Nat.{ℕ}
 use mathlib.Core.Path.{_≡_, sym, ap, _∙_}
 use mathlib.Core.Bool.{true, false}
 use borrow.Author.Needs.{needs}
-use Rattle.packed.specs.Answers.{refused, fine}
-use Rattle.packed.specs.Settings.{settingChecks, checkedSays}
-use Rattle.packed.specs.Bounds.{bounds}
-use Rattle.packed.specs.declared.setting.Setting.{Setting}
+use Rattle.settings.specs.Answers.{refused, fine}
+use Rattle.settings.specs.Settings.{settingChecks, checkedSays}
+use Rattle.settings.specs.Bounds.{bounds}
+use Rattle.settings.specs.declared.setting.Setting.{Setting}
 use Rattle.lane.specs.Lanes.{laneCause, makeChecks}
 use Rattle.lane.proofs.lanes.check_lane.Statement.{statement}
 use Rattle.lane.proofs.lanes.check_lane.Tie as tie

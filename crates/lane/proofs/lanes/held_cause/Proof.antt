@@ -3,8 +3,8 @@ use Prim.Native.Nat.{ℕ}
 use mathlib.Core.Path.{_≡_, sym, ap, _∙_}
 use mathlib.Core.Bool.{true}
 use borrow.Author.Needs.{needs}
-use Rattle.packed.specs.Answers.{refused, fine}
-use Rattle.packed.specs.Settings.{checkedSays}
+use Rattle.settings.specs.Answers.{refused, fine}
+use Rattle.settings.specs.Settings.{checkedSays}
 use Rattle.lane.specs.Lanes.{makeChecks, otherDoubles, heldCause}
 use Rattle.lane.specs.LaneLaws.{lane-bounds}
 use Rattle.lane.specs.declared.Lane.{Lane}

@@ -2,17 +2,17 @@
 use Prim.Native.Nat.{ℕ, _^_}
 use mathlib.Core.Path.{_≡_, refl, sym, _∙_}
 use mathlib.Core.Bool.{Bool, true, false, not, true≢false}
-use mathlib.Mathlib.Data.Bool.Basic.{or-eq-false-eq-eq-false-and-eq-false}
 use native.Mathlib.Omega.{arith}
 use lib.Dec.{T, leb}
 use lib.Ieee.{Float, binary64, fits, le, eq, ne}
 use borrow.Author.Needs.{needs}
 use borrow.Author.Tests.{leb-false, ne-eqb, eqb-false, not-true, not-false}
-use Rattle.doubles.specs.Whole.{double, number, isWhole}
+use Rattle.polynomials.specs.Tests.{neither}
+use Rattle.doubles.specs.Whole.{double, wholePart, isWhole}
 use Rattle.doubles.specs.Exactly.{may-hold, zero-is}
 use Rattle.doubles.specs.Words.{Tested, whole-tested, from-zero-number, tested-cut, tested-number, tested-whole, short-is}
-use Rattle.packed.specs.Settings.{spanOf}
-use Rattle.packed.specs.declared.setting.Setting.{Setting}
+use Rattle.settings.specs.Settings.{spanOf}
+use Rattle.settings.specs.declared.setting.Setting.{Setting}
 use Rattle.lane.specs.Lanes.{improperCause}
 use Rattle.lane.specs.LaneLaws.{LaneBounds, word-small}
 use Rattle.lane.proofs.lanes.improper_cause.Statement.{statement}
@@ -24,8 +24,8 @@ module _ {s : Setting} (b : LaneBounds s) (x : Float) (f : T (fits binary64 x)) 
   -- what 11 takes has passed the tests, and so what fails one is refused
   takes : improperCause s x ≡ false → Tested x
   takes e =
-      let both = or-eq-false-eq-eq-false-and-eq-false (not (isWhole x)) (leb (2 ^ spanOf s) (number x)) .0 e in
-      whole-tested x f (not-false (isWhole x) (both .0)) (word-small b (number x) (leb-false (2 ^ spanOf s) (number x) (both .1)))
+      let both = neither (not (isWhole x)) (leb (2 ^ spanOf s) (wholePart x)) e in
+      whole-tested x f (not-false (isWhole x) (both .0)) (word-small b (wholePart x) (leb-false (2 ^ spanOf s) (wholePart x) (both .1)))
 
   refuses : (Tested x → ⊥) → true ≡ improperCause s x
   refuses h = go (improperCause s x) refl
@@ -34,17 +34,17 @@ module _ {s : Setting} (b : LaneBounds s) (x : Float) (f : T (fits binary64 x)) 
       go true e = refl
       go false e = absurd (h (takes e))
 
-  module _ (t : Tested x) {w : ℕ} (cut : w ≡ number x) where
+  module _ (t : Tested x) {w : ℕ} (cut : w ≡ wholePart x) where
     at-fraction : ne (double w) x ≡ true → true ≡ improperCause s x
     unfolding ne
     at-fraction h =
-        let none : isWhole x ≡ false = sym (tested-whole x f t) ∙ not-true (eq (double (number x)) x) (rw cut at h) in
+        let none : isWhole x ≡ false = sym (tested-whole x f t) ∙ not-true (eq (double (wholePart x)) x) (rw cut at h) in
         rw none
 
     at-end : ne (double w) x ≡ false → leb (2 ^ spanOf s) w ≡ improperCause s x
     unfolding ne
     at-end h =
-        let whole : isWhole x ≡ true = sym (tested-whole x f t) ∙ not-false (eq (double (number x)) x) (rw cut at h) in
+        let whole : isWhole x ≡ true = sym (tested-whole x f t) ∙ not-false (eq (double (wholePart x)) x) (rw cut at h) in
         rw (whole, cut)
 
 -- ---- the tests, one after the other

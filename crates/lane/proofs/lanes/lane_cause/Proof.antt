@@ -4,7 +4,7 @@ use mathlib.Core.Path.{refl}
 use native.Mathlib.Nat.{mul-le-mul}
 use native.Mathlib.Omega.{arith}
 use borrow.Author.Needs.{needs}
-use Rattle.packed.specs.Limits.{mostCoefficients, widest}
+use Rattle.settings.specs.Limits.{mostCoefficients, widest}
 use Rattle.lane.proofs.lanes.lane_cause.Statement.{statement}
 use Rattle.lane.proofs.lanes.lane_cause.Tie as tie
 

@@ -1,6 +1,6 @@
 -- `lane_of` meets its contract. Assumes nothing.
 use Rattle.doubles.specs.Exactly.{may-hold, one-is}
-use Rattle.packed.specs.Settings.{base}
+use Rattle.settings.specs.Settings.{base}
 use Rattle.lane.specs.LaneLaws.{modulus-small, width-small, base-small}
 use Rattle.lane.proofs.lanes.lane_of.Statement.{statement}
 use Rattle.lane.proofs.lanes.lane_of.Tie as tie

@@ -3,9 +3,9 @@ use mathlib.Core.Path.{_≡_, sym, ap, _∙_}
 use mathlib.Core.Bool.{true, false}
 use native.Mathlib.Omega.{arith}
 use borrow.Author.Needs.{needs}
-use Rattle.doubles.specs.Whole.{differs}
+use Rattle.doubles.specs.Whole.{differsInBits}
 use Rattle.doubles.specs.Bits.{double-number, inverse-number}
-use Rattle.packed.specs.Settings.{base}
+use Rattle.settings.specs.Settings.{base}
 use Rattle.lane.specs.Lanes.{laneOf, otherDoubles}
 use Rattle.lane.specs.LaneLaws.{modulus-small, base-small}
 use Rattle.lane.specs.declared.Lane.{Lane}
@@ -15,18 +15,18 @@ use Rattle.lane.proofs.lanes.other_doubles.Tie as tie
 -- ---- on plain values: one law for each return
 
 module _ (l : Lane) {made : Lane} (e : made ≡ laneOf (l .setting)) where
-  at-modulus : differs (l .p) (made .p) ≡ true → true ≡ otherDoubles l
-  at-modulus h = rw (ap (λ (m : Lane). differs (l .p) (m .p)) (sym e) ∙ h)
+  at-modulus : differsInBits (l .p) (made .p) ≡ true → true ≡ otherDoubles l
+  at-modulus h = rw (ap (λ (m : Lane). differsInBits (l .p) (m .p)) (sym e) ∙ h)
 
-  module _ (same : differs (l .p) (made .p) ≡ false) where
-    at-base : differs (l .q) (made .q) ≡ true → true ≡ otherDoubles l
-    at-base h = rw (ap (λ (m : Lane). differs (l .p) (m .p)) (sym e) ∙ same, ap (λ (m : Lane). differs (l .q) (m .q)) (sym e) ∙ h)
+  module _ (same : differsInBits (l .p) (made .p) ≡ false) where
+    at-base : differsInBits (l .q) (made .q) ≡ true → true ≡ otherDoubles l
+    at-base h = rw (ap (λ (m : Lane). differsInBits (l .p) (m .p)) (sym e) ∙ same, ap (λ (m : Lane). differsInBits (l .q) (m .q)) (sym e) ∙ h)
 
-    module _ (same-base : differs (l .q) (made .q) ≡ false) where
-      at-end : differs (l .inverse) (made .inverse) ≡ otherDoubles l
+    module _ (same-base : differsInBits (l .q) (made .q) ≡ false) where
+      at-end : differsInBits (l .inverse) (made .inverse) ≡ otherDoubles l
       at-end =
-          rw (ap (λ (m : Lane). differs (l .p) (m .p)) (sym e) ∙ same, ap (λ (m : Lane). differs (l .q) (m .q)) (sym e) ∙ same-base)
-          (ap (λ (m : Lane). differs (l .inverse) (m .inverse)) e)
+          rw (ap (λ (m : Lane). differsInBits (l .p) (m .p)) (sym e) ∙ same, ap (λ (m : Lane). differsInBits (l .q) (m .q)) (sym e) ∙ same-base)
+          (ap (λ (m : Lane). differsInBits (l .inverse) (m .inverse)) e)
 
 -- ---- the needs
 

@@ -22,10 +22,10 @@ float-to-int-whole : tie.Need-float-to-int-whole Inv-loop μ-loop
 float-to-int-whole c = rw (held-whole (c .before .quotient .ensures)) tt
 
 mul-i : tie.Need-mul-i Inv-loop μ-loop
-mul-i c = omega (arith, c .before .before .before .before .before .pre .working .within .bounded .range .choice .k-high)
+mul-i c = omega (arith, c .before .before .before .before .before .pre .proper .within .bounded .range .choice .k-high)
 
 sub-i : tie.Need-sub-i Inv-loop μ-loop
-sub-i c = omega (arith, c .before .before .before .before .before .pre .working .within .bounded .range .choice .k-low)
+sub-i c = omega (arith, c .before .before .before .before .before .pre .proper .within .bounded .range .choice .k-low)
 
 loop-holds : tie.Need-loop-holds Inv-loop μ-loop
 loop-holds c = reduced-none (c .before .before .before .before .before .pre)

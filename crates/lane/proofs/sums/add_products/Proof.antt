@@ -16,7 +16,7 @@ abbrev μ-loop : tie.MeasureT-loop
 μ-loop lane xs ys p size pairs sum₀ r₀ sum r = pairs - r
 
 div-pairs : tie.Need-div-pairs Inv-loop μ-loop
-div-pairs c = c .before .before .pre .working .within .bounded .range .choice .k-low
+div-pairs c = c .before .before .pre .proper .within .bounded .range .choice .k-low
 
 loop-holds : tie.Need-loop-holds Inv-loop μ-loop
 loop-holds c = (omega arith, rw zero-is (held 0 (omega arith)))

@@ -7,11 +7,11 @@ use lib.ListN.{length}
 use denote.Ref.{now}
 use borrow.Author.Needs.{needs}
 use borrow.Author.Tests.{lt-ltb, le-ltb}
-use Rattle.packed.specs.Answers.{refused}
-use Rattle.packed.specs.Coefficients.{coefficientsCheck}
+use Rattle.settings.specs.Answers.{refused}
+use Rattle.settings.specs.Coefficients.{coefficientsCheck}
 use Rattle.packed.specs.RunningChecks.{pairs-shape, pairs-refused}
-use Rattle.lane.specs.Lanes.{heldCause, sumChecks}
-use Rattle.lane.specs.LaneLaws.{Working, working}
+use Rattle.lane.specs.Lanes.{heldCause, laneSumChecks}
+use Rattle.lane.specs.LaneLaws.{ProperLane, lane-proper}
 use Rattle.lane.specs.declared.Lane.{Lane}
 use Rattle.lane.proofs.sums.check_sum.Statement.{statement}
 use Rattle.lane.proofs.sums.check_sum.Tie as tie
@@ -19,22 +19,22 @@ use Rattle.lane.proofs.sums.check_sum.Tie as tie
 -- ---- on plain values: one law for each return
 
 module _ (l : Lane) (xs ys : List ℕ) where
-  at-12 : heldCause l ≡ true → refused 12 0 ≡ sumChecks l xs ys
-  unfolding sumChecks
+  at-12 : heldCause l ≡ true → refused 12 0 ≡ laneSumChecks l xs ys
+  unfolding laneSumChecks
   at-12 e = rw e
 
   module _ (ok : heldCause l ≡ false) where
-    at-9 : ((length xs ≡ length ys) × (length xs % l .setting .k ≡ 0) → ⊥) → refused 9 0 ≡ sumChecks l xs ys
-    unfolding sumChecks
+    at-9 : ((length xs ≡ length ys) × (length xs % l .setting .k ≡ 0) → ⊥) → refused 9 0 ≡ laneSumChecks l xs ys
+    unfolding laneSumChecks
     at-9 h = rw (ok, pairs-refused (l .setting .k) (length xs) (length ys) h)
 
     module _ (shape : (length xs ≡ length ys) × (length xs % l .setting .k ≡ 0)) where
-      at-13 : l .setting .n < length xs / l .setting .k → refused 13 0 ≡ sumChecks l xs ys
-      unfolding sumChecks
+      at-13 : l .setting .n < length xs / l .setting .k → refused 13 0 ≡ laneSumChecks l xs ys
+      unfolding laneSumChecks
       at-13 h = rw (ok, pairs-shape (l .setting .k) (length xs) (length ys) .1 shape, lt-ltb (l .setting .n) (length xs / l .setting .k) h)
 
-      from-8 : length xs / l .setting .k ≤ l .setting .n → coefficientsCheck (l .setting .p) xs ys ≡ sumChecks l xs ys
-      unfolding sumChecks
+      from-8 : length xs / l .setting .k ≤ l .setting .n → coefficientsCheck (l .setting .p) xs ys ≡ laneSumChecks l xs ys
+      unfolding laneSumChecks
       from-8 h = rw (ok, pairs-shape (l .setting .k) (length xs) (length ys) .1 shape, le-ltb (l .setting .n) (length xs / l .setting .k) h)
 
 -- ---- what is known past 12
@@ -42,8 +42,8 @@ module _ (l : Lane) (xs ys : List ℕ) where
 passed : (c : tie.After-s) → heldCause (c .before .before .before .before .before .args .lane) ≡ false
 passed c = sym (c .before .before .held-cause .ensures) ∙ c .before .if1 .left
 
-made : (c : tie.After-s) → Working (c .before .before .before .before .before .args .lane)
-made c = working (c .before .before .before .before .before .args .lane) (record { modulus = search needs; base = search needs; inverse = search needs }) (passed c)
+made : (c : tie.After-s) → ProperLane (c .before .before .before .before .before .args .lane)
+made c = lane-proper (c .before .before .before .before .before .args .lane) (record { modulus = search needs; base = search needs; inverse = search needs }) (passed c)
 
 -- ---- the needs
 

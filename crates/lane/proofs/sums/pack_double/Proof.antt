@@ -6,20 +6,20 @@ use lib.ListN.{length, drop}
 use denote.Ref.{now}
 use borrow.Author.Needs.{needs}
 use Rattle.polynomials.specs.Places.{packed}
-use Rattle.doubles.specs.Whole.{number, Held}
-use Rattle.packed.specs.Coefficients.{taken}
+use Rattle.doubles.specs.Whole.{wholePart, Held}
+use Rattle.packed.specs.Taken.{taken}
 use Rattle.lane.specs.SumLaws.{packed-none, pack-times, pack-plus, pack-next}
 use Rattle.lane.proofs.sums.pack_double.Statement.{statement}
 use Rattle.lane.proofs.sums.pack_double.Tie as tie
 
 abbrev Inv-loop : tie.InvT-loop
-Inv-loop p q xs w₀ i₀ w i = (i ≤ length xs) × Held w (packed (number q) (drop i (taken p xs)))
+Inv-loop p q xs w₀ i₀ w i = (i ≤ length xs) × Held w (packed (wholePart q) (drop i (taken p xs)))
 
 abbrev μ-loop : tie.MeasureT-loop
 μ-loop p q xs w₀ i₀ w i = i
 
 loop-holds : tie.Need-loop-holds Inv-loop μ-loop
-loop-holds c = let a = c .before .args in (omega arith, packed-none (a .p) (number (a .q)) (now (a .xs)))
+loop-holds c = let a = c .before .args in (omega arith, packed-none (a .p) (wholePart (a .q)) (now (a .xs)))
 
 sub-i : tie.Need-sub-i Inv-loop μ-loop
 sub-i c = search needs

@@ -2,7 +2,7 @@
 use native.Mathlib.Omega.{arith}
 use borrow.Author.Needs.{needs}
 use Rattle.doubles.specs.Exactly.{held}
-use Rattle.packed.specs.Coefficients.{takenOne}
+use Rattle.packed.specs.Taken.{takenOne}
 use Rattle.lane.proofs.sums.taken_one.Statement.{statement}
 use Rattle.lane.proofs.sums.taken_one.Tie as tie
 

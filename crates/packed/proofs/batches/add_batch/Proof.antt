@@ -1,8 +1,8 @@
 -- `add_batch` meets its contract. Assumes nothing.
 use mathlib.Core.Path.{_∙_}
 use native.Mathlib.Omega.{arith}
-use Rattle.packed.specs.Bounds.{bounds}
-use Rattle.packed.specs.FeedLaws.{multiplying, batch-full, batch-open}
+use Rattle.settings.specs.Bounds.{bounds}
+use Rattle.packed.specs.FeedLaws.{multiplying, batch-full, batch-unfilled}
 use Rattle.packed.proofs.batches.add_batch.Statement.{statement}
 use Rattle.packed.proofs.batches.add_batch.Tie as tie
 
@@ -21,7 +21,7 @@ returns c =
     c .split-word .ensures ∙ batch-full pre (c .before .before .before .before .before .add-products .ensures) (omega (arith, c .before .if1 .taken, pre .most))
 
 returns-2 : tie.Need-returns-2
-returns-2 c = batch-open (c .before .before .before .before .before .before .before .pre) (c .before .before .before .before .add-products .ensures) (λ e. omega (arith, c .if1 .left, e))
+returns-2 c = batch-unfilled (c .before .before .before .before .before .before .before .pre) (c .before .before .before .before .add-products .ensures) (λ e. omega (arith, c .if1 .left, e))
 
 pub add-batch-spec : {M : Type 1} → statement M
 add-batch-spec =

@@ -8,9 +8,9 @@ use borrow.Author.Needs.{needs}
 use Rattle.polynomials.specs.Lists.{part}
 use Rattle.polynomials.specs.Places.{packed}
 use Rattle.polynomials.specs.Blocks.{blockAt}
-use Rattle.packed.specs.Coefficients.{taken}
-use Rattle.packed.specs.BatchLaws.{taken-block}
-use Rattle.packed.specs.Feeding.{products, Multiplying}
+use Rattle.packed.specs.Taken.{taken, taken-block}
+use Rattle.packed.specs.Feeding.{Multiplying}
+use Rattle.packed.specs.FedPairs.{products}
 use Rattle.packed.proofs.batches.add_pair.Statement.{statement}
 use Rattle.packed.proofs.batches.add_pair.Tie as tie
 

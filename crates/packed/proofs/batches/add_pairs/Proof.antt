@@ -5,8 +5,8 @@ use native.Mathlib.Nat.{mod-lt}
 use native.Mathlib.Omega.{arith}
 use borrow.Author.Needs.{needs}
 use borrow.Author.Tests.{ltb-true}
-use Rattle.packed.specs.Bounds.{bounds}
-use Rattle.packed.specs.FeedLaws.{FedSoFar, fed-none, fed-batch, fed-more, fed-further, fed-all}
+use Rattle.settings.specs.Bounds.{bounds}
+use Rattle.packed.specs.FeedLaws.{FedSoFar, so-far-none, so-far-batch, so-far-more, so-far-further, so-far-all}
 use Rattle.packed.proofs.batches.add_pairs.Statement.{statement}
 use Rattle.packed.proofs.batches.add_pairs.Tie as tie
 
@@ -26,7 +26,7 @@ rem-held : tie.Need-rem-held Inv-loop μ-loop
 rem-held c = bounds _ (c .before .before .before .before .before .pre .coherent .accepted) .range .choice .n-low
 
 loop-holds : tie.Need-loop-holds Inv-loop μ-loop
-loop-holds c = fed-none (c .before .before .before .before .before .pre)
+loop-holds c = so-far-none (c .before .before .before .before .before .pre)
 
 sub-least : tie.Need-sub-least Inv-loop μ-loop
 sub-least c = omega (arith, c .before .before .loop .inv .pairs, mod-lt (c .before .before .loop .so-far .total) (bounds _ (c .before .before .before .before .before .before .before .before .pre .coherent .accepted) .range .choice .n-low))
@@ -39,7 +39,7 @@ least-requires c κs = search needs
 
 -- the open batch takes the next pairs, and stays within n
 batch-most : (c : tie.After-least Inv-loop μ-loop) → c .before .before .before .loop .held + c .least .result ≤ c .before .before .before .before .before .before .before .before .before .args .s .n
-batch-most c = fed-batch (c .before .before .before .before .before .before .before .before .before .pre) (c .before .before .before .loop .inv) (c .before .before .loop-test .taken) (c .least .ensures) .most
+batch-most c = so-far-batch (c .before .before .before .before .before .before .before .before .before .pre) (c .before .before .before .loop .inv) (c .before .before .loop-test .taken) (c .least .ensures) .most
 
 add-held : tie.Need-add-held Inv-loop μ-loop
 add-held c = omega (arith, batch-most c, bounds _ (c .before .before .before .before .before .before .before .before .before .pre .coherent .accepted) .range .choice .n-high)
@@ -54,7 +54,7 @@ returns c =
     absurd (omega (arith, over, batch-most (c .before .before), fit .ensures))
 
 add-batch-requires : tie.Need-add-batch-requires Inv-loop μ-loop
-add-batch-requires c κs = fed-batch (c .before .before .before .before .before .before .before .before .before .before .before .pre) (c .before .before .before .before .before .loop .inv) (c .before .before .before .before .loop-test .taken) (c .before .before .least .ensures)
+add-batch-requires c κs = so-far-batch (c .before .before .before .before .before .before .before .before .before .before .before .pre) (c .before .before .before .before .before .loop .inv) (c .before .before .before .before .loop-test .taken) (c .before .before .least .ensures)
 
 reopened-requires : tie.Need-reopened-requires Inv-loop μ-loop
 reopened-requires c κs = (bounds _ (c .before .before .before .before .before .before .before .before .before .before .before .before .pre .coherent .accepted) .range .choice .n-low, batch-most (c .before .before .before))
@@ -63,13 +63,13 @@ add-i : tie.Need-add-i Inv-loop μ-loop
 add-i c = search needs
 
 loop-less : tie.Need-loop-less Inv-loop μ-loop
-loop-less c = omega (arith, c .before .before .before .before .before .before .loop-test .taken, fed-further (c .before .before .before .before .before .before .before .before .before .before .before .before .before .pre) (c .before .before .before .before .before .before .before .loop .inv) (c .before .before .before .before .before .before .loop-test .taken) (c .before .before .before .before .least .ensures))
+loop-less c = omega (arith, c .before .before .before .before .before .before .loop-test .taken, so-far-further (c .before .before .before .before .before .before .before .before .before .before .before .before .before .pre) (c .before .before .before .before .before .before .before .loop .inv) (c .before .before .before .before .before .before .loop-test .taken) (c .before .before .before .before .least .ensures))
 
 loop-again : tie.Need-loop-again Inv-loop μ-loop
-loop-again c = fed-more (c .before .before .before .before .before .before .before .before .before .before .before .before .before .pre) (c .before .before .before .before .before .before .before .loop .inv) (c .before .before .before .before .before .before .loop-test .taken) (c .before .before .before .before .least .ensures) (c .before .add-batch .ensures) (c .reopened .ensures)
+loop-again c = so-far-more (c .before .before .before .before .before .before .before .before .before .before .before .before .before .pre) (c .before .before .before .before .before .before .before .loop .inv) (c .before .before .before .before .before .before .loop-test .taken) (c .before .before .before .before .least .ensures) (c .before .add-batch .ensures) (c .reopened .ensures)
 
 returns-2 : tie.Need-returns-2 Inv-loop μ-loop
-returns-2 c = (refl, fed-all (c .before .before .before .before .before .before .before .pre) (c .before .loop .inv) (c .loop-test .left))
+returns-2 c = (refl, so-far-all (c .before .before .before .before .before .before .before .pre) (c .before .loop .inv) (c .loop-test .left))
 
 pub add-pairs-spec : {M : Type 1} → statement M
 add-pairs-spec =

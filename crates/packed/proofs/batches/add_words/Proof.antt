@@ -7,8 +7,9 @@ use native.Mathlib.Numerals.{add-one}
 use native.Mathlib.Omega.{arith}
 use Rattle.polynomials.specs.IndexLaws.{sum-fewer}
 use Rattle.polynomials.specs.Blocks.{blockAt}
-use Rattle.packed.specs.Coefficients.{taken}
-use Rattle.packed.specs.Feeding.{products, Multiplying}
+use Rattle.packed.specs.Taken.{taken}
+use Rattle.packed.specs.Feeding.{Multiplying}
+use Rattle.packed.specs.FedPairs.{products}
 use Rattle.packed.proofs.batches.add_words.Statement.{statement}
 use Rattle.packed.proofs.batches.add_words.Tie as tie
 

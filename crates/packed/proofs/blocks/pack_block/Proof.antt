@@ -12,14 +12,13 @@ use Rattle.polynomials.specs.Places.{packed}
 use Rattle.polynomials.specs.PlaceLaws.{packed-agree}
 use Rattle.polynomials.specs.Blocks.{block, blockAt}
 use Rattle.polynomials.specs.BlockLaws.{block-operand}
-use Rattle.packed.specs.Coefficients.{taken, taken-low}
-use Rattle.packed.specs.BatchLaws.{taken-part}
-use Rattle.packed.specs.Gathering.{Packing}
-use Rattle.packed.specs.declared.setting.Setting.{Setting}
+use Rattle.packed.specs.Taken.{taken, taken-low, taken-part}
+use Rattle.packed.specs.Gathering.{Packable}
+use Rattle.settings.specs.declared.setting.Setting.{Setting}
 use Rattle.packed.proofs.blocks.pack_block.Statement.{statement}
 use Rattle.packed.proofs.blocks.pack_block.Tie as tie
 
-module _ (s : Setting) (xs : List ℕ) (i : ℕ) (pre : Packing s xs) where
+module _ (s : Setting) (xs : List ℕ) (i : ℕ) (pre : Packable s xs) where
   -- the part that is packed is the block
   same : (start end : ℕ) → start ≡ min (i * s .k) (length xs) → end ≡ min (start + s .k) (length xs)
       → packed (2 ^ s .t) (taken (s .p) (part start end xs)) ≡ blockAt (2 ^ s .t) (s .k) (taken (s .p) xs) i

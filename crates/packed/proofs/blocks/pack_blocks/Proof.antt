@@ -8,7 +8,7 @@ use borrow.Author.Needs.{needs}
 use Rattle.polynomials.specs.Indices.{filled}
 use Rattle.polynomials.specs.IndexLaws.{filled-more}
 use Rattle.polynomials.specs.Blocks.{blockAt}
-use Rattle.packed.specs.Coefficients.{taken}
+use Rattle.packed.specs.Taken.{taken}
 use Rattle.packed.proofs.blocks.pack_blocks.Statement.{statement}
 use Rattle.packed.proofs.blocks.pack_blocks.Tie as tie
 

@@ -11,8 +11,8 @@ use borrow.Author.Needs.{needs}
 use borrow.Author.Tests.{ltb-true}
 use Rattle.polynomials.specs.Places.{packed}
 use Rattle.packed.specs.BatchLaws.{columnsWorth, columns-none, columns-join, columns-fewer}
-use Rattle.packed.specs.Gathering.{AddsColumns, Adding}
-use Rattle.packed.specs.declared.setting.Setting.{Setting}
+use Rattle.packed.specs.Gathering.{AddsColumns, AddingColumns}
+use Rattle.settings.specs.declared.setting.Setting.{Setting}
 use Rattle.packed.proofs.columns.add_columns.Statement.{statement}
 use Rattle.packed.proofs.columns.add_columns.Tie as tie
 
@@ -28,9 +28,9 @@ abbrev μ-loop : tie.MeasureT-loop
 never : (n fit most rest more : ℕ) (r : Bool) → n ≤ fit → most ≤ n → more ≡ min most rest → r ≡ ltb fit more → r ≡ true → ⊥
 never n fit most rest more r h l e t taken = omega (arith, ltb-true fit more (sym t ∙ taken))
 
-module _ (s : Setting) (xs ys : List ℕ) (i j count at : ℕ) (old : List ℕ) (pre : Adding s xs ys i j count at old) (done more : ℕ) (sums : List ℕ)
+module _ (s : Setting) (xs ys : List ℕ) (i j count at : ℕ) (old : List ℕ) (pre : AddingColumns s xs ys i j count at old) (done more : ℕ) (sums : List ℕ)
     (inv : AddsColumns s xs ys i j done at old sums) (few : done + more ≤ count) where
-  adding : Adding s xs ys (i + done) (j + done) more at sums
+  adding : AddingColumns s xs ys (i + done) (j + done) more at sums
   adding = record {
     bounded = pre .bounded;
     left = pre .left;
@@ -75,14 +75,14 @@ returns c =
     let a = c .before .before .before .before .before .before .before .before .before .args in
     absurd (never (a .s .n) (a .fit) (c .before .before .before .before .before .batch-size .result) (a .count - c .before .before .before .before .loop .done) (c .before .before .least .result) (c .before .overflows .result) (c .before .before .before .before .before .before .before .before .before .pre .1) (c .before .before .before .before .before .batch-size .ensures .1) (c .before .before .least .ensures) (c .before .overflows .ensures) (c .if1 .taken))
 
-add-add-batch : tie.Need-add-add-batch Inv-loop μ-loop
-add-add-batch c = search needs
+add-add-four-batches : tie.Need-add-add-four-batches Inv-loop μ-loop
+add-add-four-batches c = search needs
 
-add-add-batch-2 : tie.Need-add-add-batch-2 Inv-loop μ-loop
-add-add-batch-2 c = search needs
+add-add-four-batches-2 : tie.Need-add-add-four-batches-2 Inv-loop μ-loop
+add-add-four-batches-2 c = search needs
 
-add-batch-requires : tie.Need-add-batch-requires Inv-loop μ-loop
-add-batch-requires c κs =
+add-four-batches-requires : tie.Need-add-four-batches-requires Inv-loop μ-loop
+add-four-batches-requires c κs =
     let a = c .before .before .before .before .before .before .before .before .before .before .args in
     let l = c .before .before .before .before .before .loop in
     let more = c .before .before .before .least in (
@@ -102,7 +102,7 @@ loop-again c =
     let l = c .before .before .before .before .before .before .before .before .loop in
     let more = c .before .before .before .before .before .before .least in
     let few : l .done + more .result ≤ a .count = omega (arith, more .ensures, l .inv .0) in
-    (few, turn (a .s) (now (a .xs)) (now (a .ys)) (a .i) (a .j) (a .count) (a .at) (now (a .sums)) (c .before .before .before .before .before .before .before .before .before .before .before .before .before .pre .0) (l .done) (more .result) (l .sums) (l .inv .1) few (c .before .before .add-batch .ensures))
+    (few, turn (a .s) (now (a .xs)) (now (a .ys)) (a .i) (a .j) (a .count) (a .at) (now (a .sums)) (c .before .before .before .before .before .before .before .before .before .before .before .before .before .pre .0) (l .done) (more .result) (l .sums) (l .inv .1) few (c .before .before .add-four-batches .ensures))
 
 same-length-2 : tie.Need-same-length-2 Inv-loop μ-loop
 same-length-2 c = c .before .loop .inv .1 .size
@@ -125,9 +125,9 @@ add-columns-spec =
     overflows-requires
     same-length
     returns
-    add-add-batch
-    add-add-batch-2
-    add-batch-requires
+    add-add-four-batches
+    add-add-four-batches-2
+    add-four-batches-requires
     add-done
     loop-less
     loop-again

@@ -9,10 +9,10 @@ use denote.Ref.{now}
 use borrow.Author.Needs.{needs}
 use borrow.Author.Tests.{not-true}
 use Rattle.polynomials.specs.Blocks.{blocks}
-use Rattle.packed.specs.Limits.{longestFactor}
-use Rattle.packed.specs.Gathering.{Gathering, AddsColumns, Adding}
+use Rattle.settings.specs.Limits.{longestFactor}
+use Rattle.packed.specs.Gathering.{Gathering, AddsColumns, AddingColumns}
 use Rattle.packed.specs.GatherLaws.{block-few, Gathered, gathered-none, columns-adding, gathered-more, gathered-all}
-use Rattle.packed.specs.declared.setting.Setting.{Setting}
+use Rattle.settings.specs.declared.setting.Setting.{Setting}
 use Rattle.packed.proofs.columns.gather.Statement.{statement}
 use Rattle.packed.proofs.columns.gather.Tie as tie
 
@@ -37,7 +37,7 @@ module _ (s : Setting) (a b xs ys old : List ℕ) (pre : Gathering s a b xs ys o
   again : z + 1 < blocks (s .k) (length a) + blocks (s .k) (length b)
   again = rw (← em, ← en) inside
 
-  asks : Adding s xs ys start from (top - start) (z * s .k) sums
+  asks : AddingColumns s xs ys start from (top - start) (z * s .k) sums
   asks = rw (es, ef, et, em, en) (columns-adding s a b xs ys old pre z again sums so-far)
 
   gives : {new : List ℕ} → AddsColumns s xs ys start from (top - start) (z * s .k) sums new → Gathered s a b old new (z + 4)
@@ -45,11 +45,11 @@ module _ (s : Setting) (a b xs ys old : List ℕ) (pre : Gathering s a b xs ys o
 
 -- ---- the needs
 
-block-count-requires : tie.Need-block-count-requires Inv-loop μ-loop
-block-count-requires c κs = let pre = c .before .before .before .before .before .pre .left in (pre .bounded .range .choice .k-low, omega (arith, pre .bounded .range .choice .k-high), omega (arith, pre .size))
+rounded-up-requires : tie.Need-rounded-up-requires Inv-loop μ-loop
+rounded-up-requires c κs = let pre = c .before .before .before .before .before .pre .left in (pre .bounded .range .choice .k-low, omega (arith, pre .bounded .range .choice .k-high), omega (arith, pre .size))
 
-block-count-requires-2 : tie.Need-block-count-requires-2 Inv-loop μ-loop
-block-count-requires-2 c κs = let pre = c .before .before .before .before .before .before .pre .right in (pre .bounded .range .choice .k-low, omega (arith, pre .bounded .range .choice .k-high), omega (arith, pre .size))
+rounded-up-requires-2 : tie.Need-rounded-up-requires-2 Inv-loop μ-loop
+rounded-up-requires-2 c κs = let pre = c .before .before .before .before .before .before .pre .right in (pre .bounded .range .choice .k-low, omega (arith, pre .bounded .range .choice .k-high), omega (arith, pre .size))
 
 products-that-fit-requires : tie.Need-products-that-fit-requires Inv-loop μ-loop
 products-that-fit-requires c κs = c .before .before .before .before .before .before .before .pre .left .bounded
@@ -59,8 +59,8 @@ loop-holds c =
     let a = c .before .before .before .before .before .before .before .before .args in
     let pre = c .before .before .before .before .before .before .before .before .pre in
     record {
-      m-few = block-few (a .s) (now (a .a)) (pre .left) (c .before .before .block-count .result) (c .before .before .block-count .ensures);
-      n-few = block-few (a .s) (now (a .b)) (pre .right) (c .before .block-count2 .result) (c .before .block-count2 .ensures);
+      m-few = block-few (a .s) (now (a .a)) (pre .left) (c .before .before .rounded-up .result) (c .before .before .rounded-up .ensures);
+      n-few = block-few (a .s) (now (a .b)) (pre .right) (c .before .rounded-up2 .result) (c .before .rounded-up2 .ensures);
       near = omega arith;
       so-far = gathered-none (a .s) (now (a .a)) (now (a .b)) (now (a .xs)) (now (a .ys)) (now (a .sums)) pre;
     }
@@ -96,13 +96,13 @@ mul-add-columns : tie.Need-mul-add-columns Inv-loop μ-loop
 mul-add-columns c =
     let a = c .before .before .before .before .before .before .before .before .before .before .before .before .before .args in
     let l = c .before .before .before .before .loop in
-    omega (arith, asks (a .s) (now (a .a)) (now (a .b)) (now (a .xs)) (now (a .ys)) (now (a .sums)) (c .before .before .before .before .before .before .before .before .before .before .before .before .before .pre) (l .sums) (l .z) (c .before .before .before .before .before .before .before .block-count .result) (c .before .before .before .before .before .before .block-count2 .result) (c .before .before .excess .result) (c .excess2 .result) (c .before .least .result) (l .inv .so-far) (c .before .before .before .before .before .before .before .block-count .ensures) (c .before .before .before .before .before .before .block-count2 .ensures) (c .before .before .excess .ensures) (c .excess2 .ensures) (c .before .least .ensures) (omega (arith, c .before .before .before .loop-test .taken)) .near)
+    omega (arith, asks (a .s) (now (a .a)) (now (a .b)) (now (a .xs)) (now (a .ys)) (now (a .sums)) (c .before .before .before .before .before .before .before .before .before .before .before .before .before .pre) (l .sums) (l .z) (c .before .before .before .before .before .before .before .rounded-up .result) (c .before .before .before .before .before .before .rounded-up2 .result) (c .before .before .excess .result) (c .excess2 .result) (c .before .least .result) (l .inv .so-far) (c .before .before .before .before .before .before .before .rounded-up .ensures) (c .before .before .before .before .before .before .rounded-up2 .ensures) (c .before .before .excess .ensures) (c .excess2 .ensures) (c .before .least .ensures) (omega (arith, c .before .before .before .loop-test .taken)) .near)
 
 add-columns-requires : tie.Need-add-columns-requires Inv-loop μ-loop
 add-columns-requires c κs =
     let a = c .before .before .before .before .before .before .before .before .before .before .before .before .before .before .args in
     let l = c .before .before .before .before .before .loop in (
-      asks (a .s) (now (a .a)) (now (a .b)) (now (a .xs)) (now (a .ys)) (now (a .sums)) (c .before .before .before .before .before .before .before .before .before .before .before .before .before .before .pre) (l .sums) (l .z) (c .before .before .before .before .before .before .before .before .block-count .result) (c .before .before .before .before .before .before .before .block-count2 .result) (c .before .before .before .excess .result) (c .before .excess2 .result) (c .before .before .least .result) (l .inv .so-far) (c .before .before .before .before .before .before .before .before .block-count .ensures) (c .before .before .before .before .before .before .before .block-count2 .ensures) (c .before .before .before .excess .ensures) (c .before .excess2 .ensures) (c .before .before .least .ensures) (omega (arith, c .before .before .before .before .loop-test .taken)),
+      asks (a .s) (now (a .a)) (now (a .b)) (now (a .xs)) (now (a .ys)) (now (a .sums)) (c .before .before .before .before .before .before .before .before .before .before .before .before .before .before .pre) (l .sums) (l .z) (c .before .before .before .before .before .before .before .before .rounded-up .result) (c .before .before .before .before .before .before .before .rounded-up2 .result) (c .before .before .before .excess .result) (c .before .excess2 .result) (c .before .before .least .result) (l .inv .so-far) (c .before .before .before .before .before .before .before .before .rounded-up .ensures) (c .before .before .before .before .before .before .before .rounded-up2 .ensures) (c .before .before .before .excess .ensures) (c .before .excess2 .ensures) (c .before .before .least .ensures) (omega (arith, c .before .before .before .before .loop-test .taken)),
       c .before .before .before .before .before .before .products-that-fit .ensures,
     )
 
@@ -127,7 +127,7 @@ loop-again c =
       n-few = l .inv .n-few;
       near = omega (arith, c .before .before .before .before .before .before .before .before .loop-test .taken);
       so-far =
-          gives (a .s) (now (a .a)) (now (a .b)) (now (a .xs)) (now (a .ys)) (now (a .sums)) (c .before .before .before .before .before .before .before .before .before .before .before .before .before .before .before .before .before .before .pre) (l .sums) (l .z) (c .before .before .before .before .before .before .before .before .before .before .before .before .block-count .result) (c .before .before .before .before .before .before .before .before .before .before .before .block-count2 .result) (c .before .before .before .before .before .before .before .excess .result) (c .before .before .before .before .before .excess2 .result) (c .before .before .before .before .before .before .least .result) (l .inv .so-far) (c .before .before .before .before .before .before .before .before .before .before .before .before .block-count .ensures) (c .before .before .before .before .before .before .before .before .before .before .before .block-count2 .ensures) (c .before .before .before .before .before .before .before .excess .ensures) (c .before .before .before .before .before .excess2 .ensures) (c .before .before .before .before .before .before .least .ensures) (omega (arith, c .before .before .before .before .before .before .before .before .loop-test .taken))
+          gives (a .s) (now (a .a)) (now (a .b)) (now (a .xs)) (now (a .ys)) (now (a .sums)) (c .before .before .before .before .before .before .before .before .before .before .before .before .before .before .before .before .before .before .pre) (l .sums) (l .z) (c .before .before .before .before .before .before .before .before .before .before .before .before .rounded-up .result) (c .before .before .before .before .before .before .before .before .before .before .before .rounded-up2 .result) (c .before .before .before .before .before .before .before .excess .result) (c .before .before .before .before .before .excess2 .result) (c .before .before .before .before .before .before .least .result) (l .inv .so-far) (c .before .before .before .before .before .before .before .before .before .before .before .before .rounded-up .ensures) (c .before .before .before .before .before .before .before .before .before .before .before .rounded-up2 .ensures) (c .before .before .before .before .before .before .before .excess .ensures) (c .before .before .before .before .before .excess2 .ensures) (c .before .before .before .before .before .before .least .ensures) (omega (arith, c .before .before .before .before .before .before .before .before .loop-test .taken))
           (c .before .before .before .add-columns .ensures .1);
     }
 
@@ -138,7 +138,7 @@ returns-2 : tie.Need-returns-2 Inv-loop μ-loop
 returns-2 c =
     let a = c .before .before .before .before .before .before .before .before .before .before .args in
     let l = c .before .loop in
-    (refl, gathered-all (a .s) (now (a .a)) (now (a .b)) (now (a .xs)) (now (a .ys)) (now (a .sums)) (c .before .before .before .before .before .before .before .before .before .before .pre) (l .sums) (l .z) (l .inv .so-far) (omega (arith, c .loop-test .left, c .before .before .before .before .block-count .ensures, c .before .before .before .block-count2 .ensures)))
+    (refl, gathered-all (a .s) (now (a .a)) (now (a .b)) (now (a .xs)) (now (a .ys)) (now (a .sums)) (c .before .before .before .before .before .before .before .before .before .before .pre) (l .sums) (l .z) (l .inv .so-far) (omega (arith, c .loop-test .left, c .before .before .before .before .rounded-up .ensures, c .before .before .before .rounded-up2 .ensures)))
 
 pub gather-spec : {M : Type 1} → statement M
 gather-spec =
@@ -146,8 +146,8 @@ gather-spec =
     (tie.spec
     Inv-loop
     μ-loop
-    block-count-requires
-    block-count-requires-2
+    rounded-up-requires
+    rounded-up-requires-2
     products-that-fit-requires
     loop-holds
     add-loop

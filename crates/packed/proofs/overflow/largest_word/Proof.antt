@@ -7,10 +7,10 @@ use native.Mathlib.Omega.{arith}
 use lib.ListN.{replicate}
 use borrow.Author.Needs.{needs}
 use Rattle.polynomials.specs.Places.{packed}
-use Rattle.packed.specs.Settings.{base}
-use Rattle.packed.specs.Bounds.{Bounds}
+use Rattle.settings.specs.Settings.{base}
+use Rattle.settings.specs.Bounds.{Bounds}
 use Rattle.packed.specs.OverflowLaws.{largest-operand}
-use Rattle.packed.specs.declared.setting.Setting.{Setting}
+use Rattle.settings.specs.declared.setting.Setting.{Setting}
 use Rattle.packed.proofs.overflow.largest_word.Statement.{statement}
 use Rattle.packed.proofs.overflow.largest_word.Tie as tie
 

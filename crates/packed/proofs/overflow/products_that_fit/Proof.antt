@@ -4,11 +4,11 @@ use mathlib.Core.Path.{_≡_}
 use native.Mathlib.Nat.{le-div-iff-mul-le, le-mul-of-pos-right, mul-pos, mul-comm}
 use native.Mathlib.Omega.{arith}
 use borrow.Author.Needs.{needs}
-use Rattle.packed.specs.Settings.{base}
-use Rattle.packed.specs.Bounds.{Bounds}
+use Rattle.settings.specs.Settings.{base}
+use Rattle.settings.specs.Bounds.{Bounds}
 use Rattle.polynomials.specs.Places.{packed}
 use Rattle.packed.specs.OverflowLaws.{largest, largest-some, largest-fits}
-use Rattle.packed.specs.declared.setting.Setting.{Setting}
+use Rattle.settings.specs.declared.setting.Setting.{Setting}
 use Rattle.packed.proofs.overflow.products_that_fit.Statement.{statement}
 use Rattle.packed.proofs.overflow.products_that_fit.Tie as tie
 

@@ -2,8 +2,8 @@
 use mathlib.Core.Path.{_≡_, sym, ap, _∙_}
 use borrow.Author.Needs.{needs}
 use borrow.Author.Tests.{lt-ltb, le-ltb}
-use Rattle.packed.specs.Answers.{fine}
-use Rattle.packed.specs.Settings.{places, checkedSays}
+use Rattle.settings.specs.Answers.{fine}
+use Rattle.settings.specs.Settings.{places, checkedSays}
 use Rattle.packed.specs.Places.{wordChecks, placesChecks}
 use Rattle.packed.specs.WordLaws.{word-checked}
 use Rattle.packed.proofs.places.check_places.Statement.{statement}

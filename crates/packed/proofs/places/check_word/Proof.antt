@@ -1,10 +1,10 @@
 -- `check_word` meets its contract. Assumes nothing.
 use mathlib.Core.Path.{_≡_, sym, ap, _∙_}
 use borrow.Author.Needs.{needs}
-use Rattle.packed.specs.Answers.{fine}
-use Rattle.packed.specs.Settings.{settingChecks, checkedSays}
+use Rattle.settings.specs.Answers.{fine}
+use Rattle.settings.specs.Settings.{settingChecks, checkedSays}
 use Rattle.packed.specs.Places.{wordChecks}
-use Rattle.packed.specs.Bounds.{bounds}
+use Rattle.settings.specs.Bounds.{bounds}
 use Rattle.packed.proofs.places.check_word.Statement.{statement}
 use Rattle.packed.proofs.places.check_word.Tie as tie
 

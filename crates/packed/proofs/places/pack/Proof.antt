@@ -8,11 +8,12 @@ use borrow.Author.Needs.{needs}
 use borrow.Author.Tests.{eq-eqb, ne-eqb, lt-ltb, le-ltb}
 use denote.Ref.{now}
 use Rattle.polynomials.specs.Lists.{Below}
-use Rattle.packed.specs.Answers.{answered, fine}
-use Rattle.packed.specs.Settings.{settingChecks, checkedSays}
-use Rattle.packed.specs.Coefficients.{taken, taken-operand, coefficient-check}
+use Rattle.settings.specs.Answers.{answered, fine}
+use Rattle.settings.specs.Settings.{settingChecks, checkedSays}
+use Rattle.settings.specs.Coefficients.{coefficient-check}
+use Rattle.packed.specs.Taken.{taken, taken-operand}
 use Rattle.packed.specs.Places.{packAnswer}
-use Rattle.packed.specs.Bounds.{bounds}
+use Rattle.settings.specs.Bounds.{bounds}
 use Rattle.packed.proofs.places.pack.Statement.{statement}
 use Rattle.packed.proofs.places.pack.Tie as tie
 

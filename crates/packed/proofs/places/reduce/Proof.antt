@@ -3,11 +3,11 @@ use Prim.Native.Nat.{_-_, _*_}
 use mathlib.Core.Path.{_≡_, sym, ap, _∙_}
 use native.Mathlib.Omega.{arith}
 use borrow.Author.Needs.{needs}
-use Rattle.packed.specs.Answers.{answered, fine}
-use Rattle.packed.specs.Settings.{checkedSays}
+use Rattle.settings.specs.Answers.{answered, fine}
+use Rattle.settings.specs.Settings.{checkedSays}
 use Rattle.packed.specs.Places.{wordChecks, reduceAnswer}
 use Rattle.packed.specs.WordLaws.{word-checked}
-use Rattle.packed.specs.Bounds.{Bounds}
+use Rattle.settings.specs.Bounds.{Bounds}
 use Rattle.packed.proofs.places.reduce.Statement.{statement}
 use Rattle.packed.proofs.places.reduce.Tie as tie
 

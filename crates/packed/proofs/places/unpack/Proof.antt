@@ -6,9 +6,9 @@ use borrow.Author.Needs.{needs}
 use lib.ListN.{length}
 use denote.Ref.{now}
 use Rattle.polynomials.specs.Places.{field}
-use Rattle.packed.specs.Answers.{fine}
-use Rattle.packed.specs.SharedAnswers.{writes-nothing, writes-filled}
-use Rattle.packed.specs.Settings.{base, places, checkedSays}
+use Rattle.settings.specs.Answers.{fine}
+use Rattle.settings.specs.SharedAnswers.{writes-nothing, writes-filled}
+use Rattle.settings.specs.Settings.{base, places, checkedSays}
 use Rattle.packed.specs.Places.{placesChecks}
 use Rattle.packed.specs.WordLaws.{WordFits, places-checked}
 use Rattle.packed.proofs.places.unpack.Statement.{statement}

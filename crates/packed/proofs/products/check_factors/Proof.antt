@@ -9,12 +9,12 @@ use denote.Ref.{now}
 use borrow.Author.Needs.{needs}
 use borrow.Author.Tests.{lt-ltb, le-ltb}
 use Rattle.polynomials.specs.Lists.{productLength}
-use Rattle.packed.specs.Limits.{longestFactor}
-use Rattle.packed.specs.Answers.{fine, refused}
-use Rattle.packed.specs.Settings.{settingChecks, checkedSays}
-use Rattle.packed.specs.Coefficients.{coefficientsCheck}
+use Rattle.settings.specs.Limits.{longestFactor}
+use Rattle.settings.specs.Answers.{fine, refused}
+use Rattle.settings.specs.Settings.{settingChecks, checkedSays}
+use Rattle.settings.specs.Coefficients.{coefficientsCheck}
 use Rattle.packed.specs.Products.{factorChecks}
-use Rattle.packed.specs.declared.setting.Setting.{Setting}
+use Rattle.settings.specs.declared.setting.Setting.{Setting}
 use Rattle.packed.proofs.products.check_factors.Statement.{statement}
 use Rattle.packed.proofs.products.check_factors.Tie as tie
 

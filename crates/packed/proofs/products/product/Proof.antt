@@ -9,13 +9,13 @@ use denote.Ref.{now}
 use borrow.Author.Needs.{needs}
 use borrow.Author.Tests.{not-true}
 use Rattle.polynomials.specs.Lists.{productLength}
-use Rattle.packed.specs.Answers.{fine}
-use Rattle.packed.specs.SharedAnswers.{writes-nothing}
-use Rattle.packed.specs.Settings.{checkedSays}
+use Rattle.settings.specs.Answers.{fine}
+use Rattle.settings.specs.SharedAnswers.{writes-nothing}
+use Rattle.settings.specs.Settings.{checkedSays}
 use Rattle.packed.specs.Products.{factorChecks, productChecks}
 use Rattle.packed.specs.ProductLaws.{Factors, factors-checked, product-refused, product-some, product-written}
-use Rattle.packed.specs.Gathering.{Working}
-use Rattle.packed.specs.declared.setting.Setting.{Setting}
+use Rattle.packed.specs.Gathering.{ToMultiply}
+use Rattle.settings.specs.declared.setting.Setting.{Setting}
 use Rattle.packed.proofs.products.product.Statement.{statement}
 use Rattle.packed.proofs.products.product.Tie as tie
 
@@ -25,7 +25,7 @@ module _ (s : Setting) (a b out : List ℕ) (m : ℕ) (f : Factors s a b (length
   both : (0 < length a) × (0 < length b) × (productLength (length a) (length b) ≡ length a + length b - 1)
   both = product-some (length a) (length b) (λ e. some (size ∙ e))
 
-  working : Working s a b out
+  working : ToMultiply s a b out
   working = record {
     left = record { bounded = f .bounded; below = f .left-below; size = f .left-size };
     right = record { bounded = f .bounded; below = f .right-below; size = f .right-size };

@@ -4,9 +4,9 @@ use mathlib.Core.Path.{_≡_, sym, _∙_}
 use mathlib.Core.Bool.{true, false}
 use borrow.Author.Needs.{needs}
 use borrow.Author.Tests.{lt-ltb, le-ltb}
-use Rattle.packed.specs.Answers.{refused, fine}
-use Rattle.packed.specs.Settings.{places}
-use Rattle.packed.specs.Bounds.{bounds}
+use Rattle.settings.specs.Answers.{refused, fine}
+use Rattle.settings.specs.Settings.{places}
+use Rattle.settings.specs.Bounds.{bounds}
 use Rattle.packed.specs.Running.{recordCause, closeChecks}
 use Rattle.packed.specs.RunningLaws.{coherent-is}
 use Rattle.packed.specs.declared.running.Record.{Record}

@@ -9,10 +9,10 @@ use lib.ListN.{length}
 use denote.Ref.{now}
 use borrow.Author.Needs.{needs}
 use borrow.Author.Tests.{lt-ltb, le-ltb}
-use Rattle.packed.specs.Limits.{mostPairs}
-use Rattle.packed.specs.Answers.{refused}
-use Rattle.packed.specs.Coefficients.{coefficientsCheck}
-use Rattle.packed.specs.Bounds.{bounds}
+use Rattle.settings.specs.Limits.{mostPairs}
+use Rattle.settings.specs.Answers.{refused}
+use Rattle.settings.specs.Coefficients.{coefficientsCheck}
+use Rattle.settings.specs.Bounds.{bounds}
 use Rattle.packed.specs.Running.{recordCause, pairChecks}
 use Rattle.packed.specs.RunningLaws.{coherent-is}
 use Rattle.packed.specs.RunningChecks.{pairs-shape, pairs-refused}

@@ -5,9 +5,9 @@ use native.Mathlib.Omega.{arith}
 use lib.ListN.{length}
 use denote.Ref.{now}
 use borrow.Author.Needs.{needs}
-use Rattle.packed.specs.Answers.{fine}
-use Rattle.packed.specs.Settings.{checkedSays, places}
-use Rattle.packed.specs.Bounds.{Bounds, bounds}
+use Rattle.settings.specs.Answers.{fine}
+use Rattle.settings.specs.Settings.{checkedSays, places}
+use Rattle.settings.specs.Bounds.{Bounds, bounds}
 use Rattle.packed.specs.Running.{closeChecks}
 use Rattle.packed.specs.RunningChecks.{close-checked, close-nothing, close-written}
 use Rattle.packed.proofs.running.close.Statement.{statement}
@@ -45,8 +45,8 @@ add-residues-requires c κs =
     let few : c .before .before .places .result ≤ 15 = omega (arith, c .before .before .places .ensures, range .choice .k-high) in
     (omega (arith, range .choice .p-low), range .choice .p-high, omega (arith, range .t-high), omega arith, omega (arith, c .before .before .places .ensures, close-checked _ _ (passed (c .before .before .before .before .before .before)) .1))
 
-block-count-requires : tie.Need-block-count-requires
-block-count-requires c κs =
+rounded-up-requires : tie.Need-rounded-up-requires
+rounded-up-requires c κs =
     let h = close-checked _ _ (passed (c .before .before .before .before .before .before .before .before .before)) .0 in
     let choice = bounded (c .before .before .before .before .before .before .before .before .before) .range .choice in
     (omega (arith, choice .n-low, choice .k-low), omega (arith, choice .n-high, choice .k-high), h .few)
@@ -57,7 +57,7 @@ same-length c = search needs
 returns-2 : tie.Need-returns-2
 returns-2 c =
     let a = c .before .before .before .before .before .before .before .before .before .before .before .before .before .before .args in
-    rw (c .block-count .ensures)
+    rw (c .rounded-up .ensures)
     (close-written (a .running) (now (a .out)) _ (passed (c .before .before .before .before .before .before .before .before .before .before)) (rw (c .before .before .before .before .before .before .places .ensures) at (c .before .before .before .add-residues .ensures)))
 
 pub close-spec : {M : Type 1} → statement M
@@ -71,6 +71,6 @@ close-spec =
     places-requires
     slice-aggregate-add-residues
     add-residues-requires
-    block-count-requires
+    rounded-up-requires
     same-length
     returns-2)

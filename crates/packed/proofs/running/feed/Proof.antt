@@ -6,9 +6,9 @@ use mathlib.Core.List.{List}
 use denote.Ref.{now}
 use borrow.Author.Needs.{needs}
 use borrow.Author.Tests.{not-true}
-use Rattle.packed.specs.Answers.{refused, fine}
-use Rattle.packed.specs.Settings.{checkedSays}
-use Rattle.packed.specs.Bounds.{bounds}
+use Rattle.settings.specs.Answers.{refused, fine}
+use Rattle.settings.specs.Settings.{checkedSays}
+use Rattle.settings.specs.Bounds.{bounds}
 use Rattle.packed.specs.Running.{recordCause, pairChecks}
 use Rattle.packed.specs.RunningChecks.{pairs-checked, feed-nothing, feed-taken}
 use Rattle.packed.specs.declared.running.Record.{Record}

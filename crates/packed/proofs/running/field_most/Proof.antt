@@ -6,8 +6,8 @@ use native.Mathlib.Omega.{arith}
 use lib.Pow.{pow-mono}
 use borrow.Author.Needs.{needs}
 use Rattle.polynomials.specs.Lists.{productMost}
-use Rattle.packed.specs.Bounds.{Bounds}
-use Rattle.packed.specs.declared.setting.Setting.{Setting}
+use Rattle.settings.specs.Bounds.{Bounds}
+use Rattle.settings.specs.declared.setting.Setting.{Setting}
 use Rattle.packed.proofs.running.field_most.Statement.{statement}
 use Rattle.packed.proofs.running.field_most.Tie as tie
 

@@ -7,9 +7,9 @@ use borrow.Author.Needs.{needs}
 use Rattle.polynomials.specs.IndexLaws.{NoneBefore, exceeds-first, exceeds-passed, exceeds-found, exceeds-through}
 use Rattle.polynomials.specs.Places.{field}
 use Rattle.polynomials.specs.PlaceLaws.{field-next}
-use Rattle.packed.specs.Settings.{base}
+use Rattle.settings.specs.Settings.{base}
 use Rattle.packed.specs.Running.{fieldMost}
-use Rattle.packed.specs.declared.setting.Setting.{Setting}
+use Rattle.settings.specs.declared.setting.Setting.{Setting}
 use Rattle.packed.proofs.running.fields_cause.Statement.{statement}
 use Rattle.packed.proofs.running.fields_cause.Tie as tie
 

@@ -3,9 +3,9 @@ use Prim.Native.Nat.{ℕ}
 use mathlib.Core.Path.{_≡_, sym, ap, _∙_}
 use mathlib.Core.Bool.{true}
 use borrow.Author.Needs.{needs}
-use Rattle.packed.specs.Answers.{refused, fine}
-use Rattle.packed.specs.Settings.{settingChecks, checkedSays}
-use Rattle.packed.specs.Bounds.{bounds}
+use Rattle.settings.specs.Answers.{refused, fine}
+use Rattle.settings.specs.Settings.{settingChecks, checkedSays}
+use Rattle.settings.specs.Bounds.{bounds}
 use Rattle.packed.specs.Running.{sumCause, recordCause}
 use Rattle.packed.specs.declared.running.Record.{Record}
 use Rattle.packed.proofs.running.record_cause.Statement.{statement}

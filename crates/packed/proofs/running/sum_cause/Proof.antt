@@ -5,10 +5,10 @@ use mathlib.Core.Bool.{true, false}
 use native.Mathlib.Nat.{mod-lt}
 use borrow.Author.Needs.{needs}
 use borrow.Author.Tests.{lt-ltb, le-ltb}
-use Rattle.packed.specs.Limits.{mostPairs}
+use Rattle.settings.specs.Limits.{mostPairs}
 use Rattle.packed.specs.Places.{wordCause}
 use Rattle.packed.specs.Running.{openPairs, residuesCause, fieldsCause, sumCause}
-use Rattle.packed.specs.declared.setting.Setting.{Setting}
+use Rattle.settings.specs.declared.setting.Setting.{Setting}
 use Rattle.packed.specs.declared.running.Sum.{Sum}
 use Rattle.packed.proofs.running.sum_cause.Statement.{statement}
 use Rattle.packed.proofs.running.sum_cause.Tie as tie

@@ -7,7 +7,7 @@ use lib.ListN.{length}
 use denote.Ref.{now}
 use Rattle.polynomials.specs.Indices.{first}
 use Rattle.polynomials.specs.IndexLaws.{first-found, first-passed, first-ended}
-use Rattle.packed.specs.Tables.{badWord, firstBadWord}
+use Rattle.packed.specs.Places.{badWord, firstBadWord}
 use borrow.Author.Needs.{needs}
 use Rattle.packed.proofs.words.first_bad_word.Statement.{statement}
 use Rattle.packed.proofs.words.first_bad_word.Tie as tie

@@ -8,8 +8,7 @@ use lib.Pow.{pow-pos}
 use denote.Ref.{now}
 use borrow.Author.Needs.{needs}
 use Rattle.polynomials.specs.Places.{packed}
-use Rattle.packed.specs.Coefficients.{taken, takenOne, taken-length}
-use Rattle.packed.specs.BatchLaws.{taken-turn, taken-most}
+use Rattle.packed.specs.Taken.{taken, takenOne, taken-length, taken-turn, taken-most}
 use Rattle.packed.proofs.words.pack_taken.Statement.{statement}
 use Rattle.packed.proofs.words.pack_taken.Tie as tie
 

@@ -1,6 +1,6 @@
 -- `taken_one` meets its contract. Assumes nothing.
 use borrow.Author.Needs.{needs}
-use Rattle.packed.specs.Coefficients.{takenOne}
+use Rattle.packed.specs.Taken.{takenOne}
 use Rattle.packed.proofs.words.taken_one.Statement.{statement}
 use Rattle.packed.proofs.words.taken_one.Tie as tie
 
