@@ -83,7 +83,7 @@ pub fn checked(answer: Checked)
     text(b":");
 }
 
-pub fn taken(answer: Counted)
+pub fn counted(answer: Counted)
     ensures { λ r. ⌜ Prints r ⌝ }
 {
     match answer {

@@ -804,7 +804,7 @@ fn show_call(running: Record, xs: &[u16], ys: &[u16]) -> Record {
     lines::list(ys);
     let after = feed(running, xs, ys);
     let answer = after.answer;
-    lines::taken(answer);
+    lines::counted(answer);
     after.running
 }
 
