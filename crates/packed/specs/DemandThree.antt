@@ -29,7 +29,6 @@ use Rattle.packed.specs.SumOfPairs.{batch-fields, parts-operands, rest-f
 use Rattle.settings.specs.declared.setting.Setting.{Setting}
 use Rattle.packed.specs.declared.running.Record.{Record}
 use Rattle.packed.specs.declared.running.Begun.{Begun}
-use Rattle.packed.specs.declared.running.Counted.the-variants as inCounted
 use Rattle.packed.specs.declared.running.Closed.{Closed}
 
 pub record Demand3 (s : Setting) (cs : List Pair) (z : Record) : Type 0 where

@@ -30,7 +30,6 @@ use Rattle.packed.specs.Calls.{schoolbook, sumOf}
 use Rattle.packed.specs.RunningLaws.{after-one}
 use Rattle.settings.specs.declared.setting.Setting.{Setting}
 use Rattle.packed.specs.declared.running.Sum.{Sum}
-use Rattle.packed.specs.declared.running.Counted.the-variants as inCounted
 
 module _ (s : Setting) (ok : settingChecks s ≡ fine) where
   b : Bounds s
