@@ -20,7 +20,8 @@ use Rattle.settings.specs.Settings.{base, places, settingChecks, settingOf}
 use Rattle.settings.specs.Coefficients.{firstBad, coefficientsCheck}
 use Rattle.settings.specs.Choices.{escapes, smallestWidth, noneCause, chooseAnswer}
 use Rattle.packed.specs.Taken.{taken}
-use Rattle.packed.specs.Places.{wordChecks, wordsChecks, placesChecks, packAnswer, reduceAnswer}
+use Rattle.words.specs.Places.{wordChecks, wordsChecks, placesChecks, reduceAnswer}
+use Rattle.packed.specs.Packing.{packAnswer}
 use Rattle.tables.specs.Tables.{table, tableChecks, buildChecks}
 use Rattle.packed.specs.Overflow.{feedOverflow}
 use Rattle.packed.specs.Running.{sumCause, recordCause, closingAt, afterPairs, fedPairs, pairChecks, feedChecks, closeChecks, keptBy, freshSum, recordOf, Feeds}

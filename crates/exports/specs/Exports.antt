@@ -24,7 +24,8 @@ use Rattle.settings.specs.Answers.{answered, refused, Verdict, refuse, _andThen
 use Rattle.settings.specs.SharedAnswers.{shortCause}
 use Rattle.settings.specs.Settings.{settingChecks, places}
 use Rattle.settings.specs.Choices.{Chooses, choose-once}
-use Rattle.packed.specs.Places.{Packs, pack-once, Unpacks, unpack-once, Reduces, reduce-once}
+use Rattle.words.specs.Places.{Unpacks, unpack-once, Reduces, reduce-once}
+use Rattle.packed.specs.Packing.{Packs, pack-once}
 use Rattle.tables.specs.Tables.{Builds, build-once, ReducesByTable, reduce-by-table-once}
 use Rattle.packed.specs.Products.{Multiplies, product-once}
 use Rattle.packed.specs.Running.{fedPairs, feedChecks, freshSum, recordOf}

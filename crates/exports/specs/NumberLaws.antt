@@ -21,7 +21,8 @@ use Rattle.settings.specs.SharedAnswers.{shortCause}
 use Rattle.settings.specs.Settings.{modulusCause, lengthCause, batchCause, widthCause, narrowCause, roomCause, settingChecks, places}
 use Rattle.settings.specs.Choices.{noneCause, smallestWidth, chooseAnswer}
 use Rattle.settings.specs.Coefficients.{firstBad, firstBadOfTwo, coefficientCheck, coefficientsCheck}
-use Rattle.packed.specs.Places.{shapeCause, wordCause, wordChecks, placesChecks, packAnswer, reduceAnswer, firstBadWord}
+use Rattle.words.specs.Places.{wordCause, wordChecks, placesChecks, reduceAnswer, firstBadWord}
+use Rattle.packed.specs.Packing.{shapeCause, packAnswer}
 use Rattle.tables.specs.Tables.{noTableCause, fits, tableSize, tableChecks, buildChecks, byTableChecks}
 use Rattle.packed.specs.Overflow.{overflowCause, feedOverflow}
 use Rattle.packed.specs.Products.{factorsCause, factorChecks, productChecks}

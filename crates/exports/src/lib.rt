@@ -18,9 +18,7 @@ use crate::replies::of_refusal;
 use crate::replies::of_wrote;
 use lane::Made;
 use lane::make;
-use packed::places::pack;
-use packed::places::reduce;
-use packed::places::unpack;
+use packed::packing::pack;
 use packed::products::product;
 use packed::running::Counted;
 use packed::running::close;
@@ -30,6 +28,8 @@ use settings::setting::Setting;
 use settings::setting::choose;
 use tables::build;
 use tables::reduce_by_table;
+use words::reduce;
+use words::unpack;
 
 // Choose: the value is the width.
 #[no_mangle]

@@ -25,7 +25,7 @@ use Rattle.settings.specs.Answers.{answered, fine, refuse}
 use Rattle.settings.specs.AnswerLaws.{passed, passed-first, passed-last}
 use Rattle.settings.specs.SharedAnswers.{packed-once}
 use Rattle.settings.specs.Settings.{settingChecks, base, places, spanOf}
-use Rattle.packed.specs.Places.{wordChecks, reducedWord, reduceAnswer, Reduces}
+use Rattle.words.specs.Places.{wordChecks, reducedWord, reduceAnswer, Reduces}
 use Rattle.packed.specs.Running.{fedPairs}
 use Rattle.packed.specs.SumOfPairs.{batch-fields}
 use Rattle.settings.specs.declared.setting.Setting.{Setting}

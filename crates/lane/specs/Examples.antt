@@ -7,7 +7,7 @@ use Rattle.doubles.specs.Whole.{cutProduct}
 use Rattle.doubles.specs.Quotients.{falls-short}
 use Rattle.settings.specs.Answers.{fine, refused}
 use Rattle.settings.specs.Settings.{settingChecks}
-use Rattle.packed.specs.Places.{reducedWord}
+use Rattle.words.specs.Places.{reducedWord}
 use Rattle.settings.specs.declared.setting.Setting.{Setting}
 use Rattle.lane.specs.Lanes.{makeChecks}
 

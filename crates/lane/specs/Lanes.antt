@@ -28,7 +28,7 @@ use Rattle.settings.specs.Answers.{Answer, answered, refused, Verdict, refuse, 
 use Rattle.settings.specs.AnswerLaws.{once}
 use Rattle.settings.specs.Settings.{settingChecks, base, spanOf}
 use Rattle.settings.specs.Coefficients.{coefficientsCheck}
-use Rattle.packed.specs.Places.{reducedWord}
+use Rattle.words.specs.Places.{reducedWord}
 use Rattle.packed.specs.Running.{fedPairs, pairsCause}
 use Rattle.settings.specs.declared.setting.Setting.{Setting}
 use Rattle.lane.specs.declared.Lane.{Lane}

@@ -33,8 +33,8 @@ use Rattle.doubles.specs.Exactly.{held, held-number, held-exact, whole-held, he
 use Rattle.settings.specs.Limits.{wordBits}
 use Rattle.settings.specs.Settings.{base, places, spanOf}
 use Rattle.settings.specs.Bounds.{Bounds}
-use Rattle.packed.specs.Places.{reducedWord}
-use Rattle.packed.specs.WordLaws.{span-power}
+use Rattle.words.specs.Places.{reducedWord}
+use Rattle.words.specs.WordLaws.{span-power}
 use Rattle.settings.specs.declared.setting.Setting.{Setting}
 use Rattle.lane.specs.Lanes.{heldCause, improperCause}
 use Rattle.lane.specs.LaneLaws.{Doubles, ProperLane, lane-proper, held-modulus, held-base, modulus-small, word-small}

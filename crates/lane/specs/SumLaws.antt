@@ -1,5 +1,5 @@
 -- The sum of products in doubles. Assumes nothing.
---     Packing p q xs                  the word of the list in the base q is below 2^53
+--     PacksExactly p q xs             the word of the list in the base q is below 2^53
 --     packed-none                     packing from the highest place down starts with +0
 --     pack-times, pack-plus, pack-next
 --                                     one place below: what is asked on the way, and that it is the word from there on
@@ -41,7 +41,7 @@ use Rattle.settings.specs.Bounds.{Bounds, batch-within}
 use Rattle.packed.specs.Running.{fedPairs, pairsCause}
 use Rattle.packed.specs.RunningChecks.{pairs-shape}
 use Rattle.packed.specs.FedPairs.{fed-operands, fed-count}
-use Rattle.packed.specs.WordLaws.{within-span}
+use Rattle.words.specs.WordLaws.{within-span}
 use Rattle.settings.specs.declared.setting.Setting.{Setting}
 use Rattle.lane.specs.Lanes.{heldCause, laneFullCause, laneSumChecks, sumWord}
 use Rattle.lane.specs.LaneLaws.{LaneBounds, Doubles, ProperLane, lane-proper, held-within, held-base, word-small}
@@ -50,7 +50,7 @@ use Rattle.lane.specs.declared.Lane.{Lane}
 
 -- ---- packing
 
-pub record Packing (p : ℕ) (q : Float) (xs : List ℕ) : Type 0 where
+pub record PacksExactly (p : ℕ) (q : Float) (xs : List ℕ) : Type 0 where
   pub p-low : 0 < p
   pub base-exact : Exact q
   pub base-low : 0 < wholePart q
@@ -59,7 +59,7 @@ pub record Packing (p : ℕ) (q : Float) (xs : List ℕ) : Type 0 where
 pub packed-none : (p q : ℕ) (xs : List ℕ) → Held (ofBits binary64 0) (packed q (drop (length xs) (taken p xs)))
 packed-none p q xs = rw (zero-is, drop-of-length-le (taken p xs) {i = length xs} (rw taken-length (omega arith))) (held 0 (omega arith))
 
-module _ {p : ℕ} {q : Float} {xs : List ℕ} (pre : Packing p q xs) {w : Float} {i : ℕ} (more : 0 < i) (top : i ≤ length xs) (h : Held w (packed (wholePart q) (drop i (taken p xs)))) where
+module _ {p : ℕ} {q : Float} {xs : List ℕ} (pre : PacksExactly p q xs) {w : Float} {i : ℕ} (more : 0 < i) (top : i ≤ length xs) (h : Held w (packed (wholePart q) (drop i (taken p xs)))) where
   -- the word from one place below, which is at most the whole
   next : packed (wholePart q) (drop i (taken p xs)) * wholePart q + takenOne p (coefficient xs (i - 1)) ≡ packed (wholePart q) (drop (i - 1) (taken p xs))
   next = taken-turn (wholePart q) p xs i _ more top refl
@@ -160,7 +160,7 @@ module _ {l : Lane} {xs ys : List ℕ} (pre : Summing l xs ys) where
       factor : packed (wholePart (l .q)) (taken (s .p) (part (r * s .k) (r * s .k + s .k) zs)) ≡ blockAt (base s) (s .k) (taken (s .p) zs) r
       factor = rw (held-number (held-base (pre .proper))) (taken-block (base s) (s .p) (s .k) zs r inside)
 
-      packing : Packing (s .p) (l .q) (part (r * s .k) (r * s .k + s .k) zs)
+      packing : PacksExactly (s .p) (l .q) (part (r * s .k) (r * s .k + s .k) zs)
       packing = record {
         p-low = omega (arith, bounded .range .choice .p-low);
         base-exact = held-exact (held-base (pre .proper));
@@ -168,10 +168,10 @@ module _ {l : Lane} {xs ys : List ℕ} (pre : Summing l xs ys) where
         room = rw factor (omega (arith, bounded .word-fits (block (s .k) (taken (s .p) zs) r) (block-operand (s .p) (s .k) (taken (s .p) zs) r (taken-low (s .p) zs below))));
       }
 
-    pub left-packing : Packing (s .p) (l .q) (part (r * s .k) (r * s .k + s .k) xs)
+    pub left-packing : PacksExactly (s .p) (l .q) (part (r * s .k) (r * s .k + s .k) xs)
     left-packing = packing xs pair-inside (pre .lists .left-below)
 
-    pub right-packing : Packing (s .p) (l .q) (part (r * s .k) (r * s .k + s .k) ys)
+    pub right-packing : PacksExactly (s .p) (l .q) (part (r * s .k) (r * s .k + s .k) ys)
     right-packing = packing ys right-inside (pre .lists .right-below)
 
     module _ {x y : Float} (hx : Held x (packed (wholePart (l .q)) (taken (s .p) (part (r * s .k) (r * s .k + s .k) xs)))) (hy : Held y (packed (wholePart (l .q)) (taken (s .p) (part (r * s .k) (r * s .k + s .k) ys)))) where

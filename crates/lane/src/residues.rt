@@ -5,7 +5,7 @@ ghost use Rattle.polynomials.specs.Places.{shifted, minus};
 ghost use Rattle.doubles.specs.Whole.{wholePart, Held};
 ghost use Rattle.settings.specs.Limits.{wordBits};
 ghost use Rattle.settings.specs.Settings.{base};
-ghost use Rattle.packed.specs.Places.{reducedWord};
+ghost use Rattle.words.specs.Places.{reducedWord};
 ghost use Rattle.lane.specs.ResidueLaws.{Reducing, Correcting};
 use crate::Lane;
 use crate::exact::less;

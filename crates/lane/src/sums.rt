@@ -7,7 +7,7 @@ ghost use Rattle.doubles.specs.Whole.{wholePart, Held};
 ghost use Rattle.settings.specs.Settings.{checkedSays};
 ghost use Rattle.packed.specs.Taken.{taken, takenOne};
 ghost use Rattle.lane.specs.Lanes.{laneSumChecks, sumWord};
-ghost use Rattle.lane.specs.SumLaws.{Summing, Packing};
+ghost use Rattle.lane.specs.SumLaws.{Summing, PacksExactly};
 use crate::Lane;
 use crate::exact::plus;
 use crate::exact::times;
@@ -58,7 +58,7 @@ pub fn add_products(lane: Lane, xs: &[u16], ys: &[u16]) -> f64
 
 // The word of the coefficients as packing takes them, from the highest place down.
 fn pack_double(p: u64, q: f64, xs: &[u16]) -> f64
-    requires { ⌜ Packing p q (now xs) ⌝ }
+    requires { ⌜ PacksExactly p q (now xs) ⌝ }
     ensures { λ r. ⌜ Held r (packed (wholePart q) (taken p (now (xs .entry)))) ⌝ }
 {
     let mut w = 0.0;

@@ -1,13 +1,11 @@
 -- Document 01, in its order and words; then the laws on the promises; then what the workers ask of each other. Each file opens with its notions.
 pub mod Taken
-pub mod Places
+pub mod Packing
 pub mod Overflow
 pub mod Products
 pub mod Running
 pub mod Calls
-pub mod WordLaws
 pub mod RoundTrips
-pub mod ReduceLaws
 pub mod OverflowLaws
 pub mod ProductLaws
 pub mod RunningLaws

@@ -24,8 +24,9 @@ use Rattle.settings.specs.SharedAnswers.{writes-once, writes-filled}
 use Rattle.settings.specs.Settings.{settingChecks, base, places, spanOf}
 use Rattle.settings.specs.Coefficients.{coefficientCheck, coefficient-check}
 use Rattle.packed.specs.Taken.{taken, taken-below}
-use Rattle.packed.specs.Places.{shapeCause, wordCause, wordChecks, placesChecks, packAnswer, Packs, pack-once, Unpacks}
-use Rattle.packed.specs.WordLaws.{span-power}
+use Rattle.words.specs.Places.{wordCause, wordChecks, placesChecks, Unpacks}
+use Rattle.packed.specs.Packing.{shapeCause, packAnswer, Packs, pack-once}
+use Rattle.words.specs.WordLaws.{span-power}
 use Rattle.settings.specs.Bounds.{bounds}
 use Rattle.settings.specs.declared.setting.Setting.{Setting}
 use Rattle.settings.specs.declared.answers.Packed.{Packed}

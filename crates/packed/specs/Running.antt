@@ -34,7 +34,7 @@ use Rattle.settings.specs.SharedAnswers.{shortCause}
 use Rattle.settings.specs.Settings.{settingChecks, base, places, spanOf, checkedSays, check-once}
 use Rattle.settings.specs.Coefficients.{coefficientsCheck}
 use Rattle.packed.specs.Taken.{taken}
-use Rattle.packed.specs.Places.{wordCause}
+use Rattle.words.specs.Places.{wordCause}
 use Rattle.packed.specs.Overflow.{feedOverflow}
 use Rattle.settings.specs.declared.setting.Setting.{Setting}
 use Rattle.settings.specs.declared.setting.Checked.{Checked}

@@ -35,8 +35,8 @@ use Rattle.settings.specs.Answers.{fine, refuses}
 use Rattle.settings.specs.AnswerLaws.{refuses-none}
 use Rattle.settings.specs.Settings.{settingChecks, base, places, spanOf}
 use Rattle.settings.specs.Bounds.{Bounds, bounds}
-use Rattle.packed.specs.Places.{wordCause}
-use Rattle.packed.specs.WordLaws.{span-power, within-span}
+use Rattle.words.specs.Places.{wordCause}
+use Rattle.words.specs.WordLaws.{span-power, within-span}
 use Rattle.packed.specs.Running.{openPairs, residueMost, residuesCause, fieldMost, fieldsCause, sumCause, recordCause, Coherent, closingAt, split, withPair, afterPair, afterPairs}
 use Rattle.settings.specs.declared.setting.Setting.{Setting}
 use Rattle.packed.specs.declared.running.Sum.{Sum}

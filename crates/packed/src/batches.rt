@@ -10,14 +10,14 @@ ghost use Rattle.packed.specs.Running.{split, closingOf};
 ghost use Rattle.settings.specs.Bounds.{Bounds};
 ghost use Rattle.packed.specs.Feeding.{OpenBatch, afterBatch, Multiplying};
 ghost use Rattle.packed.specs.FedPairs.{PairsToFeed, fedSum, products};
+use crate::arithmetic::least;
+use crate::arithmetic::pack_taken;
+use crate::arithmetic::places;
+use crate::arithmetic::power;
+use crate::arithmetic::wide;
 use crate::overflow::overflows;
 use crate::overflow::products_that_fit;
 use crate::running::Sum;
-use crate::words::least;
-use crate::words::pack_taken;
-use crate::words::places;
-use crate::words::power;
-use crate::words::wide;
 use settings::setting::Setting;
 
 // The sum after some pairs, or that 18 would be given, and that is nowhere.

@@ -7,8 +7,8 @@ ghost use Rattle.polynomials.specs.Blocks.{blockAt};
 ghost use Rattle.settings.specs.Limits.{longestFactor};
 ghost use Rattle.packed.specs.Taken.{taken};
 ghost use Rattle.packed.specs.Gathering.{Packable, packedBack};
-use crate::words::least;
-use crate::words::pack_taken;
+use crate::arithmetic::least;
+use crate::arithmetic::pack_taken;
 use settings::setting::Setting;
 
 // The words of the first count blocks, the lowest first.

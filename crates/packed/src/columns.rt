@@ -11,12 +11,12 @@ ghost use Rattle.polynomials.specs.Places.{packed};
 ghost use Rattle.polynomials.specs.Blocks.{spread};
 ghost use Rattle.settings.specs.Limits.{largestModulus, wordBits};
 ghost use Rattle.packed.specs.Gathering.{sumResidue, Gathering, Sums, AddingColumns, AddsColumns, Batching, BatchWords, AddingWords, AddsWords, AddsWord};
+use crate::arithmetic::least;
+use crate::arithmetic::places;
+use crate::arithmetic::power;
+use crate::arithmetic::rounded_up;
 use crate::overflow::overflows;
 use crate::overflow::products_that_fit;
-use crate::words::least;
-use crate::words::places;
-use crate::words::power;
-use crate::words::rounded_up;
 use settings::setting::Setting;
 
 const COLUMNS: usize = 4;

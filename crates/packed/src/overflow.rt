@@ -7,7 +7,7 @@ ghost use Rattle.polynomials.specs.Places.{packed};
 ghost use Rattle.settings.specs.Settings.{base};
 ghost use Rattle.settings.specs.Bounds.{Bounds};
 ghost use Rattle.packed.specs.OverflowLaws.{largest};
-use crate::words::power;
+use crate::arithmetic::power;
 use settings::setting::Setting;
 
 // How many products of the largest words fit one word.

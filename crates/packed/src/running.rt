@@ -2,17 +2,17 @@
 ghost use mathlib.Core.Path.{_≡_};
 ghost use mathlib.Core.Bool.{false};
 ghost use Prim.Native.Nat.{_-_, _*_, _<_};
-ghost use Rattle.settings.specs.Settings.{checkedSays};
+ghost use Rattle.settings.specs.Answers.{fine};
+ghost use Rattle.settings.specs.Settings.{settingChecks, checkedSays};
 ghost use Rattle.settings.specs.Bounds.{Bounds};
 ghost use Rattle.packed.specs.Running.{recordCause, sumCause, residueMost, residuesCause, fieldsCause, fieldMost, pairChecks, closeChecks, Freshens, Feeds, Closes};
+use crate::arithmetic::least;
+use crate::arithmetic::places;
+use crate::arithmetic::power;
+use crate::arithmetic::rounded_up;
+use crate::arithmetic::wide;
 use crate::batches::add_pairs;
 use crate::batches::add_residues;
-use crate::words::least;
-use crate::words::places;
-use crate::words::power;
-use crate::words::rounded_up;
-use crate::words::wide;
-use crate::words::word_cause;
 use settings::coefficients::check_coefficients;
 use settings::limits::MOST_PAIRS;
 use settings::limits::RESIDUE_PLACES;
@@ -21,6 +21,7 @@ use settings::refusals::Refusal;
 use settings::setting::Checked;
 use settings::setting::Setting;
 use settings::setting::check;
+use words::check_word;
 
 // What was added up: how many pairs, the word of the open batch, unreduced, and the residues of the full batches.
 pub struct Sum {
@@ -167,9 +168,9 @@ fn record_cause(running: Record) -> bool
     sum_cause(running.setting, running.sum)
 }
 
-// Its part that is not the setting's.
+// Its part that is not the setting's, which nothing refuses.
 fn sum_cause(s: Setting, sum: Sum) -> bool
-    requires { ⌜ Bounds s ⌝ }
+    requires { ⌜ settingChecks s ≡ fine ⌝ }
     ensures { λ r. ⌜ r ≡ sumCause s sum ⌝ }
 {
     if MOST_PAIRS < sum.total {
@@ -182,7 +183,10 @@ fn sum_cause(s: Setting, sum: Sum) -> bool
     if fields_cause(s, sum.total % s.n, sum.word) {
         return true;
     }
-    word_cause(s, sum.word)
+    if let Checked::Refused(r) = check_word(s, sum.word) {
+        return true;
+    }
+    false
 }
 
 // A residue of p or more, or one from index 2k-1 on that is not zero.

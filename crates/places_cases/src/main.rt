@@ -1,11 +1,11 @@
 // Runs document 01's examples of pack, unpack, shifted residues and reduce, and inputs on both sides of the edge of every refusal that
 // they and the test of two lists' coefficients give, and prints what came. Lists are lent with sevens in them, and printed as far as they were lent.
-use packed::places::pack;
-use packed::places::reduce;
-use packed::places::shifted_residues;
-use packed::places::unpack;
+use packed::packing::pack;
 use settings::coefficients::check_coefficients;
 use settings::setting::Setting;
+use words::reduce;
+use words::shifted_residues;
+use words::unpack;
 
 const ALL: u64 = 18446744073709551615;
 

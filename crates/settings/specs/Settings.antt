@@ -6,9 +6,9 @@
 --     widthCause t      4 Width: t outside 1..63
 --     narrowCause s     5 Narrow: 2^t <= n k (p-1)^2
 --     roomCause s       6 Room: (2k-1) t >= 64
--- 5 and 6 are condition (2) of document 003 with 64 bits. 7 stands in Choices, 8 in Coefficients, 10 in SharedAnswers; in the crate `packed` 9 in Places,
--- Products and Running, 11 in Places, 12 and 13 in Running, 18 in Overflow; 14 and 15 in the crate `tables`; 16, and 11, 12 and 13 of the double lane, in
--- the crate `lane`; 17, and 12 of a job's state, in the crate `jobs`; 19 to 21 in the crate `labels`.
+-- 5 and 6 are condition (2) of document 003 with 64 bits. 7 stands in Choices, 8 in Coefficients, 10 in SharedAnswers; 11 in the crate `words`; in the
+-- crate `packed` 9 in Packing, Products and Running, 12 and 13 in Running, 18 in Overflow; 14 and 15 in the crate `tables`; 16, and 11, 12 and 13 of the
+-- double lane, in the crate `lane`; 17, and 12 of a job's state, in the crate `jobs`; 19 to 21 in the crate `labels`.
 --     settingChecks     check a setting: 1 to 6 in order
 --     base s            q = 2^t
 --     places s          2k-1, the fields of a product

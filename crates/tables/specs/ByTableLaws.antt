@@ -20,8 +20,8 @@ use Rattle.settings.specs.Answers.{fine, refused}
 use Rattle.settings.specs.AnswerLaws.{passed, passed-first, passed-last}
 use Rattle.settings.specs.SharedAnswers.{wroteSays, shortCause, writes-once, writes-filled}
 use Rattle.settings.specs.Settings.{settingChecks}
-use Rattle.packed.specs.Places.{wordCause, wordChecks, reduceAnswer, Reduces}
-use Rattle.packed.specs.WordLaws.{words-check}
+use Rattle.words.specs.Places.{wordCause, wordChecks, reduceAnswer, Reduces}
+use Rattle.words.specs.WordLaws.{words-check}
 use Rattle.tables.specs.Tables.{table, fits, tableChecks, byTableChecks, reducedWordAt, reducedWords, ReducesByTable}
 use Rattle.tables.specs.FitLaws.{table-accepted}
 use Rattle.settings.specs.declared.setting.Setting.{Setting}

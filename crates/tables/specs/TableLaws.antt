@@ -28,7 +28,7 @@ use Rattle.polynomials.specs.TableLaws.{entry-base, Stands, looked-up-word}
 use Rattle.layout.specs.Numbers.{bigEndian}
 use Rattle.settings.specs.Limits.{largestTableModulus, wordBits}
 use Rattle.settings.specs.Settings.{base, places}
-use Rattle.packed.specs.Places.{reducedWord}
+use Rattle.words.specs.Places.{reducedWord}
 use Rattle.tables.specs.Tables.{entries, tableVersion, tableBody, table, headerSize, tableSize}
 use Rattle.settings.specs.declared.setting.Setting.{Setting}
 

@@ -34,7 +34,7 @@ use Rattle.settings.specs.Limits.{largestTableModulus}
 use Rattle.settings.specs.Answers.{answered, refused, Verdict, refuse, _andThen_}
 use Rattle.settings.specs.SharedAnswers.{shortCause, Writes, writes-once}
 use Rattle.settings.specs.Settings.{settingChecks}
-use Rattle.packed.specs.Places.{wordsCheck, reducedWord}
+use Rattle.words.specs.Places.{wordsCheck, reducedWord}
 use Rattle.settings.specs.declared.setting.Setting.{Setting}
 use Rattle.settings.specs.declared.answers.Wrote.{Wrote}
 

@@ -1,5 +1,4 @@
-// A correction table's bytes, and what is looked up among its entries. As in `words`, nothing is refused here: each function states what
-// it assumes.
+// A correction table's bytes, and what is looked up among its entries. Nothing is refused here: each function states what it assumes.
 ghost use mathlib.Core.Path.{_≡_};
 ghost use Prim.Native.Nat.{ℕ, _+_, _-_, _*_, _%_, _^_, _<_, _≤_};
 ghost use lib.Dec.{ltb};
@@ -165,7 +164,7 @@ pub fn reduce_words(s: Setting, held: &[u8], words: &[u64], out: &mut [u64])
 }
 
 // The word whose field i is what stands among the entries at u_i + p u_(i+1), for the m lowest places: one division by p gives all the u,
-// as in split_shifted, and each place is looked up once. The entries may be any p^2 bytes, as long as a word has room for what is found.
+// as for shifted residues, and each place is looked up once. The entries may be any p^2 bytes, as long as a word has room for what is found.
 fn look_up(p: u64, t: u64, m: usize, held: &[u8], word: u64) -> u64
     requires { ⌜ (0 < p) × (p ≤ largestModulus) × (t < wordBits) × ((m - 1) * t < wordBits) × (p * p ≤ length (now held)) × (packed (2 ^ t) (upto m (lookedUp p (2 ^ t) (now held) word)) < 2 ^ wordBits) ⌝ }
     ensures { λ r. ⌜ r ≡ packed (2 ^ t) (upto m (lookedUp p (2 ^ t) (now (held .entry)) word)) ⌝ }

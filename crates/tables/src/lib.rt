@@ -10,13 +10,13 @@ use crate::entries::first_difference;
 use crate::entries::reduce_words;
 use crate::entries::table_size;
 use crate::entries::write_table;
-use packed::places::check_words;
 use settings::answers::Wrote;
 use settings::limits::LARGEST_TABLE_MODULUS;
 use settings::refusals;
 use settings::setting::Checked;
 use settings::setting::Setting;
 use settings::setting::check;
+use words::check_words;
 
 // The table of the setting's p and t, 8 + p^2 bytes: 14, 10.
 pub fn build(s: Setting, out: &mut [u8]) -> Wrote

@@ -12,8 +12,8 @@ use Rattle.settings.specs.Answers.{fine, refused}
 use Rattle.settings.specs.SharedAnswers.{writes-nothing, writes-filled}
 use Rattle.settings.specs.Settings.{checkedSays}
 use Rattle.tables.specs.Tables.{fits, tableChecks, byTableChecks, reducedWordAt, reducedWords, ReducesByTable}
-use Rattle.packed.specs.Places.{wordsChecks}
-use Rattle.packed.specs.WordLaws.{words-check, words-checked}
+use Rattle.words.specs.Places.{wordsChecks}
+use Rattle.words.specs.WordLaws.{words-check, words-checked}
 use Rattle.tables.specs.FitLaws.{Tabled, table-accepted, table-checked, table-range, fits-through, fits-parted, fits-size, fits-entries}
 use Rattle.tables.specs.ByTableLaws.{stale-checks, ByTable, by-table-checked}
 use Rattle.settings.specs.declared.setting.Setting.{Setting}
