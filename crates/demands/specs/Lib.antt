@@ -1,0 +1,2 @@
+-- What is demanded of the calls together. Each file opens with its notions.
+pub mod DemandTwo
