@@ -1,11 +1,11 @@
 -- Demand 2: what pack answers for up to n pairs, multiplied and added as whole numbers, then reduced, with the table or without, and unpacked, is the
 -- schoolbook sum modulo p. It names promises, and no function. Assumes nothing.
 --     PackedPair              two polynomials, and a word for each
---     Packing s cs            each word is what pack answers for its polynomial
---     pairsIn cs              the pairs of polynomials
+--     EachPacked s cs         each word is what pack answers for its polynomial
+--     pairsGiven cs           the pairs of polynomials
 --     wordOf cs               their words, multiplied pair by pair and added up as whole numbers
 --     Batch s cs              a batch: up to n such pairs
---     Batches s bs            some batches; batch bs i, one of them; wordsOf bs, the word of each
+--     Batches s bs            some batches; batchAt bs i, one of them; wordsOf bs, the word of each
 --     UnpacksTo s cs w        whatever unpacks the word w gives the schoolbook sum of the pairs modulo p, and leaves what stood after
 --     GivesSums s cs r        r is such a word
 --     Demand2 s bs            what demand 2 says of such batches
@@ -52,27 +52,27 @@ pub record PackedPair : Type 0 where
   pub leftWord : ℕ
   pub rightWord : ℕ
 
-abbrev pub Packing : Setting → List PackedPair → Type 0
-Packing s [] = Unit {0}
-Packing s (c ∷ cs) = Packs s (c .left) (Word (c .leftWord)) × Packs s (c .right) (Word (c .rightWord)) × Packing s cs
+abbrev pub EachPacked : Setting → List PackedPair → Type 0
+EachPacked s [] = Unit {0}
+EachPacked s (c ∷ cs) = Packs s (c .left) (Word (c .leftWord)) × Packs s (c .right) (Word (c .rightWord)) × EachPacked s cs
 
-abbrev pub pairsIn : List PackedPair → List Pair
-pairsIn [] = []
-pairsIn (c ∷ cs) = record { left = c .left; right = c .right } ∷ pairsIn cs
+abbrev pub pairsGiven : List PackedPair → List Pair
+pairsGiven [] = []
+pairsGiven (c ∷ cs) = record { left = c .left; right = c .right } ∷ pairsGiven cs
 
 abbrev pub wordOf : List PackedPair → ℕ
 wordOf [] = 0
 wordOf (c ∷ cs) = c .leftWord * c .rightWord + wordOf cs
 
 abbrev pub Batch : Setting → List PackedPair → Type 0
-Batch s cs = Packing s cs × (length cs ≤ s .n)
+Batch s cs = EachPacked s cs × (length cs ≤ s .n)
 
 abbrev pub Batches : Setting → List (List PackedPair) → Type 0
 Batches s [] = Unit {0}
 Batches s (cs ∷ bs) = Batch s cs × Batches s bs
 
-abbrev pub batch : List (List PackedPair) → ℕ → List PackedPair
-batch bs i = getD bs i []
+abbrev pub batchAt : List (List PackedPair) → ℕ → List PackedPair
+batchAt bs i = getD bs i []
 
 abbrev pub wordsOf : List (List PackedPair) → List ℕ
 wordsOf [] = []
@@ -83,7 +83,7 @@ wordsOf (cs ∷ bs) = wordOf cs ∷ wordsOf bs
 abbrev pub UnpacksTo : Setting → List PackedPair → ℕ → Type 0
 UnpacksTo s cs w =
     (old after : List ℕ) (a : Wrote) → places s ≤ length old → Unpacks s w old a after
-    → (a ≡ Count (places s)) × (after ≡ schoolbook s (pairsIn cs) ++ drop (places s) old)
+    → (a ≡ Count (places s)) × (after ≡ schoolbook s (pairsGiven cs) ++ drop (places s) old)
 
 pub record GivesSums (s : Setting) (cs : List PackedPair) (r : Packed) : Type 0 where
   pub word : ℕ
@@ -92,34 +92,34 @@ pub record GivesSums (s : Setting) (cs : List PackedPair) (r : Packed) : Type 0 
 
 pub record Demand2 (s : Setting) (bs : List (List PackedPair)) : Type 0 where
   -- 11 refuses none of the words
-  pub taken : (i : ℕ) → i < length bs → wordChecks s (wordOf (batch bs i)) ≡ fine
+  pub words-pass : (i : ℕ) → i < length bs → wordChecks s (wordOf (batchAt bs i)) ≡ fine
   -- reduced one by one
-  pub reducing : (i : ℕ) → i < length bs → (r : Packed) → Reduces s (wordOf (batch bs i)) r → GivesSums s (batch bs i) r
+  pub reducing : (i : ℕ) → i < length bs → (r : Packed) → Reduces s (wordOf (batchAt bs i)) r → GivesSums s (batchAt bs i) r
   -- reduced by a table that fits, into a list that has room for them
   pub by-table : (buf old after : List ℕ) (a : Wrote) → tableChecks s ≡ fine → fits s buf ≡ true → length bs ≤ length old → ReducesByTable s buf (wordsOf bs) old a after
-      → (a ≡ Count (length bs)) × ((i : ℕ) → i < length bs → GivesSums s (batch bs i) (Word (coefficient after i)))
+      → (a ≡ Count (length bs)) × ((i : ℕ) → i < length bs → GivesSums s (batchAt bs i) (Word (coefficient after i)))
 
 -- ---- it holds
 
 operand : (s : Setting) (xs : List ℕ) (w : ℕ) → PackedTo s xs w → Operand (s .p) (s .k) xs
 operand s xs w h = record { size = omega (arith, h .size); below = h .below }
 
-operands : (s : Setting) (cs : List PackedPair) → Packing s cs → Pairs (s .p) (s .k) (pairsIn cs)
+operands : (s : Setting) (cs : List PackedPair) → EachPacked s cs → Pairs (s .p) (s .k) (pairsGiven cs)
 operands s [] h = tt
 operands s (c ∷ cs) h = (operand s (c .left) (c .leftWord) (packed-to s (c .left) (c .leftWord) (h .0)), operand s (c .right) (c .rightWord) (packed-to s (c .right) (c .rightWord) (h .1)), operands s cs (h .2))
 
-count : (cs : List PackedPair) → length (pairsIn cs) ≡ length cs
+count : (cs : List PackedPair) → length (pairsGiven cs) ≡ length cs
 count [] = refl
 count (c ∷ cs) = omega (arith, count cs)
 
-words-are : (s : Setting) (cs : List PackedPair) → Packing s cs → wordOf cs ≡ sumOfWords (base s) (pairsIn cs)
+words-are : (s : Setting) (cs : List PackedPair) → EachPacked s cs → wordOf cs ≡ sumOfWords (base s) (pairsGiven cs)
 words-are s [] h = refl
 words-are s (c ∷ cs) h = rw (packed-to s (c .left) (c .leftWord) (h .0) .word, packed-to s (c .right) (c .rightWord) (h .1) .word, words-are s cs (h .2))
 
 -- one batch
 module _ (s : Setting) (ok : settingChecks s ≡ fine) (cs : List PackedPair) (given : Batch s cs) where
   abbrev pairs : List Pair
-  pairs = pairsIn cs
+  pairs = pairsGiven cs
 
   abbrev w : ℕ
   w = wordOf cs
@@ -133,9 +133,9 @@ module _ (s : Setting) (ok : settingChecks s ≡ fine) (cs : List PackedPair) (g
   below : w < 2 ^ spanOf s
   below = rw word-is (within-span s (sumOfProducts pairs) (bounds s ok) (batch-within s pairs (operands s cs (given .0)) at-most))
 
-  batch-taken : wordChecks s w ≡ fine
+  batch-passes : wordChecks s w ≡ fine
   unfolding wordChecks
-  batch-taken = rw (ok, lt-leb (2 ^ spanOf s) w below)
+  batch-passes = rw (ok, lt-leb (2 ^ spanOf s) w below)
 
   -- its fields are the coefficients of the sum
   field-is : (i : ℕ) → field (base s) w i ≡ coefficient (sumOfProducts pairs) i
@@ -154,7 +154,7 @@ module _ (s : Setting) (ok : settingChecks s ≡ fine) (cs : List PackedPair) (g
 
   answers : Reduces s w (Word (reducedWord s w))
   unfolding reduceAnswer
-  answers = rw batch-taken
+  answers = rw batch-passes
 
   batch-reduced : (r : Packed) → Reduces s w r → GivesSums s cs r
   batch-reduced r h =
@@ -162,7 +162,7 @@ module _ (s : Setting) (ok : settingChecks s ≡ fine) (cs : List PackedPair) (g
       record { word = reducedWord s w; is = is; unpacked = unpacks-to (reducedWord s w) answers }
 
 -- one of some batches
-one-of : (s : Setting) (bs : List (List PackedPair)) → Batches s bs → (i : ℕ) → i < length bs → Batch s (batch bs i)
+one-of : (s : Setting) (bs : List (List PackedPair)) → Batches s bs → (i : ℕ) → i < length bs → Batch s (batchAt bs i)
 one-of s [] h i l = absurd (omega arith)
 one-of s (cs ∷ bs) h zero l = h .0
 one-of s (cs ∷ bs) h (suc i) l = one-of s bs (h .1) i (omega arith)
@@ -171,33 +171,33 @@ words-length : (bs : List (List PackedPair)) → length (wordsOf bs) ≡ length 
 words-length [] = refl
 words-length (cs ∷ bs) = omega (arith, words-length bs)
 
-word-at : (bs : List (List PackedPair)) (i : ℕ) → coefficient (wordsOf bs) i ≡ wordOf (batch bs i)
+word-at : (bs : List (List PackedPair)) (i : ℕ) → coefficient (wordsOf bs) i ≡ wordOf (batchAt bs i)
 word-at [] i = refl
 word-at (cs ∷ bs) zero = refl
 word-at (cs ∷ bs) (suc i) = word-at bs i
 
 module _ (s : Setting) (ok : settingChecks s ≡ fine) (bs : List (List PackedPair)) (given : Batches s bs) where
-  reduces-at : (i : ℕ) → i < length bs → Reduces s (wordOf (batch bs i)) (Word (reducedWord s (wordOf (batch bs i))))
-  reduces-at i l = answers s ok (batch bs i) (one-of s bs given i l)
+  reduces-at : (i : ℕ) → i < length bs → Reduces s (wordOf (batchAt bs i)) (Word (reducedWord s (wordOf (batchAt bs i))))
+  reduces-at i l = answers s ok (batchAt bs i) (one-of s bs given i l)
 
   pub demand-2 : Demand2 s bs
   demand-2 = record {
-    taken = λ i l. batch-taken s ok (batch bs i) (one-of s bs given i l);
-    reducing = λ i l. batch-reduced s ok (batch bs i) (one-of s bs given i l);
+    words-pass = λ i l. batch-passes s ok (batchAt bs i) (one-of s bs given i l);
+    reducing = λ i l. batch-reduced s ok (batchAt bs i) (one-of s bs given i l);
     by-table = tabled;
   }
     where
       tabled : (buf old after : List ℕ) (a : Wrote) → tableChecks s ≡ fine → fits s buf ≡ true → length bs ≤ length old → ReducesByTable s buf (wordsOf bs) old a after
-          → (a ≡ Count (length bs)) × ((i : ℕ) → i < length bs → GivesSums s (batch bs i) (Word (coefficient after i)))
+          → (a ≡ Count (length bs)) × ((i : ℕ) → i < length bs → GivesSums s (batchAt bs i) (Word (coefficient after i)))
       tabled buf old after a checked fit room promise =
           let size = words-length bs in
-          let each : (i : ℕ) → i < length (wordsOf bs) → Reduces s (coefficient (wordsOf bs) i) (Word (reducedWord s (wordOf (batch bs i)))) = λ i l. rw (word-at bs i) (reduces-at i (rw size at l)) in
-          let done : a ≡ Count (length (wordsOf bs)) = by-table-answers s buf (wordsOf bs) old after a (λ i. reducedWord s (wordOf (batch bs i))) checked fit (rw size room) each promise in
+          let each : (i : ℕ) → i < length (wordsOf bs) → Reduces s (coefficient (wordsOf bs) i) (Word (reducedWord s (wordOf (batchAt bs i)))) = λ i l. rw (word-at bs i) (reduces-at i (rw size at l)) in
+          let done : a ≡ Count (length (wordsOf bs)) = by-table-answers s buf (wordsOf bs) old after a (λ i. reducedWord s (wordOf (batchAt bs i))) checked fit (rw size room) each promise in
           let wrote = by-table-reduces s buf (wordsOf bs) old after (length (wordsOf bs)) (rw done at promise) in (
             done ∙ rw size,
             λ i l.
-                let here : Reduces s (wordOf (batch bs i)) (Word (coefficient after i)) = rw (word-at bs i) at (wrote .1 i (rw size l)) in
-                batch-reduced s ok (batch bs i) (one-of s bs given i l) (Word (coefficient after i)) here,
+                let here : Reduces s (wordOf (batchAt bs i)) (Word (coefficient after i)) = rw (word-at bs i) at (wrote .1 i (rw size l)) in
+                batch-reduced s ok (batchAt bs i) (one-of s bs given i l) (Word (coefficient after i)) here,
           )
 
 -- of any word: what was reduced by a table, and what was reduced without it

@@ -1,54 +1,46 @@
--- The number 0 stands for no refusal, and for nothing else: the library refuses nothing with it. Assumes nothing.
---     Never0 a                 the answer a is no refusal with the number 0
---     reply-0, lane-reply-0    the reply of such an answer has the number 0 exactly where the answer is no refusal
+-- The numbers of the replies: 0 stands for no refusal, and for nothing else; and 12 is never given. Each by what the library says of its own checks: the
+-- laws NAME-gives there name the numbers that a call can give. Assumes nothing.
+--     reply-0, lane-reply-0    the reply of an answer that cannot be refused with 0 has the number 0 exactly where the answer is no refusal
 --     wrote-0                  and where checks stand before a value, exactly where they refuse nothing
 --     choose-never-0, pack-never-0, unpack-never-0, reduce-never-0, build-never-0, by-table-never-0, product-never-0, sum-never-0, make-never-0,
 --     lane-sum-never-0, lane-reduce-never-0
 --                              so it is with all answers that the exported functions tell
-use Prim.Native.Nat.{ℕ, _+_, _/_, _<_}
-use mathlib.Core.Path.{_≡_, refl, sym, ap}
-use mathlib.Core.Bool.{Bool, true, false, not, true≢false}
-use mathlib.Core.List.{List}
+--     sum-gives                the numbers that sum can give, and no other
+--     sax-sum-never-12, sax-lane-sum-never-12, sax-lane-reduce-never-12
+--                              12 is not among those of sum, whose record is a fresh one, nor of the lane's, whose record is made there
+use Prim.Native.Nat.{ℕ, _<_}
+use mathlib.Core.Path.{_≡_, refl, sym, ap, _∙_}
+use mathlib.Core.Bool.{false, true≢false}
+use mathlib.Core.List.{List, [], _∷_, _++_}
 use mathlib.Core.Logic.{_↔_}
 use native.Mathlib.Omega.{arith}
-use lib.Dec.{ltb}
 use lib.ListN.{length}
 use lib.Ieee.{Float}
-use Rattle.polynomials.specs.Lists.{productLength}
-use Rattle.settings.specs.Answers.{Answer, answered, refused, Verdict, refuse, refuses, _andThen_}
-use Rattle.settings.specs.AnswerLaws.{never}
+use Rattle.polynomials.specs.Indices.{roundedUp}
+use Rattle.settings.specs.Answers.{Answer, answered, refused, Verdict, refuses, _andThen_, Given, Never}
+use Rattle.settings.specs.AnswerLaws.{given-value, given-check, given-after, given-then, given-never}
 use Rattle.settings.specs.SharedAnswers.{shortCause}
-use Rattle.settings.specs.Settings.{modulusCause, lengthCause, batchCause, widthCause, narrowCause, roomCause, settingChecks, places}
-use Rattle.settings.specs.Choices.{noneCause, smallestWidth, chooseAnswer}
-use Rattle.settings.specs.Coefficients.{firstBad, firstBadOfTwo, coefficientCheck, coefficientsCheck}
-use Rattle.words.specs.Places.{wordCause, wordChecks, placesChecks, reduceAnswer, firstBadWord}
-use Rattle.packed.specs.Packing.{shapeCause, packAnswer}
-use Rattle.tables.specs.Tables.{noTableCause, fits, tableSize, tableChecks, buildChecks, byTableChecks}
-use Rattle.packed.specs.Overflow.{overflowCause, feedOverflow}
-use Rattle.packed.specs.Products.{factorsCause, factorChecks, productChecks}
-use Rattle.packed.specs.Running.{openPairs, recordCause, pairsCause, recordFullCause, pairChecks, feedChecks, freshSum, recordOf}
+use Rattle.settings.specs.Settings.{settingNumbers, setting-gives, places}
+use Rattle.settings.specs.Choices.{chooseAnswer, choose-gives}
+use Rattle.doubles.specs.Whole.{double, wholePart}
+use Rattle.words.specs.Places.{placesChecks, places-gives, reducedWord, reduceAnswer, reduce-gives}
+use Rattle.packed.specs.Packing.{packAnswer, pack-gives}
+use Rattle.packed.specs.Products.{productChecks, product-gives}
+use Rattle.packed.specs.Running.{fedPairs, freshSum, recordOf}
+use Rattle.packed.specs.RunningChecks.{coherent-gives}
+use Rattle.packed.specs.Joining.{fresh-coherent}
+use Rattle.tables.specs.Tables.{buildChecks, build-gives, byTableChecks, by-table-gives}
 use Rattle.lane.specs.Lanes as inLanes
+use Rattle.lane.specs.Answering.{made-held, held-sum-gives, held-reduce-gives}
 use Rattle.settings.specs.declared.setting.Setting.{Setting}
-use Rattle.packed.specs.declared.running.Record.{Record}
 use Rattle.lane.specs.declared.Lane.{Lane}
-use Rattle.exports.specs.Replies.{replyOf, laneReplyOf}
-use Rattle.exports.specs.Exports.{wholeSumChecks}
-
-abbrev pub Never0 : {A : Type 0} → Answer A → Type 0
-Never0 a = (i : ℕ) → a ≡ refused 0 i → ⊥
-
--- ---- a value, a check, and checks before others
-
-value : {A : Type 0} (v : A) → Never0 (answered v)
-value v i e = never 0 i v (sym e)
-
-check : (cause : Bool) (number place : ℕ) → 0 < number → Never0 (refuse cause number place)
-check true number place h i e = let z : number ≡ 0 = cc in omega arith
-check false number place h i e = value tt i e
-
-both : {A : Type 0} {v : Verdict} {a : Answer A} → Never0 v → Never0 a → Never0 (v andThen a)
-both {v = answered u} hv ha = ha
-both {v = refused number place} hv ha = λ i e. hv i (cc)
+use Rattle.lane.specs.declared.LaneAnswer.{LaneAnswer}
+use Rattle.lane.specs.declared.Made.{Made}
+use Rattle.lane.specs.declared.Made.the-variants as inMade
+use Rattle.exports.specs.Replies.{replyOf, laneReplyOf, laneReply, Tells}
+use Rattle.exports.specs.Exports.{wholeSumChecks, GivesSum, byMade, GivesLaneSum, GivesLaneReduced}
+use Rattle.exports.specs.declared.replies.Reply.{Reply}
+use Rattle.exports.specs.declared.replies.LaneReply.{LaneReply}
 
 -- ---- replies
 
@@ -56,125 +48,105 @@ abbrev numberOf : {A : Type 0} → Answer A → ℕ
 numberOf (answered v) = 0
 numberOf (refused number place) = number
 
-number-0 : {A : Type 0} (a : Answer A) → Never0 a → (numberOf a ≡ 0) ↔ (refuses a ≡ false)
+number-0 : {A : Type 0} (a : Answer A) → Never 0 a → (numberOf a ≡ 0) ↔ (refuses a ≡ false)
 number-0 (answered v) h = (λ e. refl, λ e. refl)
 number-0 (refused number place) h = (λ e. absurd (h place (ap (λ (n : ℕ). refused n place) e)), λ e. absurd (true≢false e))
 
-pub reply-0 : (a : Answer ℕ) → Never0 a → (replyOf a .number ≡ 0) ↔ (refuses a ≡ false)
-reply-0 a h = rw (same a) (number-0 a h)
-  where
-    same : (a : Answer ℕ) → replyOf a .number ≡ numberOf a
-    same (answered v) = refl
-    same (refused number place) = refl
+number-never : {A : Type 0} (a : Answer A) (n : ℕ) → 0 < n → Never n a → numberOf a ≡ n → ⊥
+number-never (answered v) n some h e = omega arith
+number-never (refused number place) n some h e = h place (ap (λ (m : ℕ). refused m place) e)
 
-pub lane-reply-0 : (a : Answer Float) → Never0 a → (laneReplyOf a .number ≡ 0) ↔ (refuses a ≡ false)
-lane-reply-0 a h = rw (same a) (number-0 a h)
-  where
-    same : (a : Answer Float) → laneReplyOf a .number ≡ numberOf a
-    same (answered x) = refl
-    same (refused number place) = refl
+reply-number : (a : Answer ℕ) → replyOf a .number ≡ numberOf a
+reply-number (answered v) = refl
+reply-number (refused number place) = refl
 
-pub wrote-0 : (v : Verdict) (m : ℕ) → Never0 v → (replyOf (v andThen answered m) .number ≡ 0) ↔ (refuses v ≡ false)
-wrote-0 v m h = rw (same v) at (reply-0 (v andThen answered m) (both h (value m)))
-  where
-    same : (v : Verdict) → refuses (v andThen answered m) ≡ refuses v
-    same (answered u) = refl
-    same (refused number place) = refl
+lane-reply-number : (a : Answer Float) → laneReplyOf a .number ≡ numberOf a
+lane-reply-number (answered x) = refl
+lane-reply-number (refused number place) = refl
 
--- ---- the library's checks
+pub reply-0 : (a : Answer ℕ) → Never 0 a → (replyOf a .number ≡ 0) ↔ (refuses a ≡ false)
+reply-0 a h = rw (reply-number a) (number-0 a h)
 
-setting : (s : Setting) → Never0 (settingChecks s)
-unfolding settingChecks
-setting s =
-    both (check (modulusCause (s .p)) 1 0 (omega arith))
-    (both (check (lengthCause (s .k)) 2 0 (omega arith))
-    (both (check (batchCause (s .n)) 3 0 (omega arith))
-    (both (check (widthCause (s .t)) 4 0 (omega arith))
-    (both (check (narrowCause s) 5 0 (omega arith)) (check (roomCause s) 6 0 (omega arith))))))
+pub lane-reply-0 : (a : Answer Float) → Never 0 a → (laneReplyOf a .number ≡ 0) ↔ (refuses a ≡ false)
+lane-reply-0 a h = rw (lane-reply-number a) (number-0 a h)
 
-coefficient : (p : ℕ) (xs : List ℕ) → Never0 (coefficientCheck p xs)
-coefficient p xs = check (ltb (firstBad p xs) (length xs)) 8 (firstBad p xs) (omega arith)
+pub wrote-0 : (v : Verdict) (m : ℕ) → Never 0 v → (replyOf (v andThen answered m) .number ≡ 0) ↔ (refuses v ≡ false)
+wrote-0 (answered u) m h = (λ e. refl, λ e. refl)
+wrote-0 (refused number place) m h = (λ e. absurd (h place (ap (λ (n : ℕ). refused n place) e)), λ e. absurd (true≢false e))
 
-coefficients : (p : ℕ) (xs ys : List ℕ) → Never0 (coefficientsCheck p xs ys)
-coefficients p xs ys = check (ltb (firstBadOfTwo p xs ys) (length xs + length ys)) 8 (firstBadOfTwo p xs ys) (omega arith)
+-- ---- 0 is no refusal's
 
-short : (needed len : ℕ) → Never0 (refuse (shortCause needed len) 10 0)
-short needed len = check (shortCause needed len) 10 0 (omega arith)
+pub choose-never-0 : (p k n : ℕ) → Never 0 (chooseAnswer p k n)
+choose-never-0 p k n = given-never 0 refl (choose-gives p k n)
 
-word : (s : Setting) (w : ℕ) → Never0 (wordChecks s w)
-unfolding wordChecks
-word s w = both (setting s) (check (wordCause s w) 11 0 (omega arith))
+pub pack-never-0 : (s : Setting) (xs : List ℕ) → Never 0 (packAnswer s xs)
+pack-never-0 s xs = given-never 0 refl (pack-gives s xs)
 
-table : (s : Setting) → Never0 (tableChecks s)
-unfolding tableChecks
-table s = both (setting s) (check (noTableCause (s .p)) 14 0 (omega arith))
+pub unpack-never-0 : (s : Setting) (w len : ℕ) → Never 0 (placesChecks s w len)
+unpack-never-0 s w len = given-never 0 refl (places-gives s w len)
 
-feed : (r : Record) (xs ys : List ℕ) → Never0 (feedChecks r xs ys)
-unfolding feedChecks pairChecks
-feed r xs ys =
-    both
-    (both (check (recordCause r) 12 0 (omega arith))
-    (both (check (pairsCause (r .setting .k) (length xs) (length ys)) 9 0 (omega arith))
-    (both (check (recordFullCause (r .sum .total) (length xs / r .setting .k)) 13 0 (omega arith)) (coefficients (r .setting .p) xs ys))))
-    (check (feedOverflow (r .setting) (openPairs (r .setting) (r .sum)) (r .sum .word) xs ys) 18 0 (omega arith))
+pub reduce-never-0 : (s : Setting) (w : ℕ) → Never 0 (reduceAnswer s w)
+reduce-never-0 s w = given-never 0 refl (reduce-gives s w)
 
--- ---- what the exported functions tell
+pub build-never-0 : (s : Setting) (len : ℕ) → Never 0 (buildChecks s len)
+build-never-0 s len = given-never 0 refl (build-gives s len)
 
-pub choose-never-0 : (p k n : ℕ) → Never0 (chooseAnswer p k n)
-unfolding chooseAnswer
-choose-never-0 p k n =
-    both (check (modulusCause p) 1 0 (omega arith))
-    (both (check (lengthCause k) 2 0 (omega arith))
-    (both (check (batchCause n) 3 0 (omega arith))
-    (both (check (noneCause p k n) 7 0 (omega arith)) (value (smallestWidth p k n)))))
+pub by-table-never-0 : (s : Setting) (buf ws : List ℕ) (len : ℕ) → Never 0 (byTableChecks s buf ws len)
+by-table-never-0 s buf ws len = given-never 0 refl (by-table-gives s buf ws len)
 
-pub pack-never-0 : (s : Setting) (xs : List ℕ) → Never0 (packAnswer s xs)
-unfolding packAnswer
-pack-never-0 s xs = both (setting s) (both (check (shapeCause (s .k) xs) 9 0 (omega arith)) (both (coefficient (s .p) xs) (value _)))
+pub product-never-0 : (s : Setting) (a b : List ℕ) (len : ℕ) → Never 0 (productChecks s a b len)
+product-never-0 s a b len = given-never 0 refl (product-gives s a b len)
 
-pub unpack-never-0 : (s : Setting) (w len : ℕ) → Never0 (placesChecks s w len)
-unfolding placesChecks
-unpack-never-0 s w len = both (word s w) (short (places s) len)
+pub make-never-0 : (s : Setting) → Never 0 (inLanes.makeChecks s)
+make-never-0 s = given-never 0 refl (inLanes.make-gives s)
 
-pub reduce-never-0 : (s : Setting) (w : ℕ) → Never0 (reduceAnswer s w)
-unfolding reduceAnswer
-reduce-never-0 s w = both (word s w) (value _)
+pub lane-sum-never-0 : (l : Lane) (xs ys : List ℕ) → Never 0 (inLanes.laneSumChecks l xs ys)
+lane-sum-never-0 l xs ys = given-never 0 refl (inLanes.lane-sum-gives l xs ys)
 
-pub build-never-0 : (s : Setting) (len : ℕ) → Never0 (buildChecks s len)
-unfolding buildChecks
-build-never-0 s len = both (table s) (short (tableSize (s .p)) len)
+pub lane-reduce-never-0 : (l : Lane) (x : Float) → Never 0 (inLanes.reduceChecks l x)
+lane-reduce-never-0 l x = given-never 0 refl (inLanes.lane-reduce-gives l x)
 
-pub by-table-never-0 : (s : Setting) (buf ws : List ℕ) (len : ℕ) → Never0 (byTableChecks s buf ws len)
-unfolding byTableChecks
-by-table-never-0 s buf ws len =
-    both (table s)
-    (both (check (not (fits s buf)) 15 _ (omega arith))
-    (both (short (length ws) len) (check (ltb (firstBadWord s ws) (length ws)) 11 (firstBadWord s ws) (omega arith))))
+-- ---- sum
 
-pub product-never-0 : (s : Setting) (a b : List ℕ) (len : ℕ) → Never0 (productChecks s a b len)
-unfolding productChecks factorChecks
-product-never-0 s a b len =
-    both
-    (both (setting s)
-    (both (check (factorsCause (length a) (length b)) 9 0 (omega arith))
-    (both (coefficients (s .p) a b) (short (productLength (length a) (length b)) len))))
-    (check (overflowCause s a b) 18 0 (omega arith))
-
-pub sum-never-0 : (s : Setting) (xs ys : List ℕ) (len : ℕ) → Never0 (wholeSumChecks s xs ys len)
+pub sum-gives : (s : Setting) (xs ys : List ℕ) (len : ℕ) → Given (settingNumbers ++ (9 ∷ 13 ∷ 8 ∷ 10 ∷ [])) (wholeSumChecks s xs ys len)
 unfolding wholeSumChecks
-sum-never-0 s xs ys len = both (setting s) (both (feed (recordOf s freshSum) xs ys) (short (places s) len))
+sum-gives s xs ys len =
+    given-after (setting-gives s) (λ ok. given-then (coherent-gives (recordOf s freshSum) xs ys (fresh-coherent s ok)) (given-check (shortCause (places s) len) 10 0))
 
-pub make-never-0 : (s : Setting) → Never0 (inLanes.makeChecks s)
-unfolding inLanes.makeChecks
-make-never-0 s = both (setting s) (check (inLanes.laneCause s) 16 0 (omega arith))
+pub sum-never-0 : (s : Setting) (xs ys : List ℕ) (len : ℕ) → Never 0 (wholeSumChecks s xs ys len)
+sum-never-0 s xs ys len = given-never 0 refl (sum-gives s xs ys len)
 
-pub lane-sum-never-0 : (l : Lane) (xs ys : List ℕ) → Never0 (inLanes.laneSumChecks l xs ys)
-unfolding inLanes.laneSumChecks
-lane-sum-never-0 l xs ys =
-    both (check (inLanes.heldCause l) 12 0 (omega arith))
-    (both (check (pairsCause (l .setting .k) (length xs) (length ys)) 9 0 (omega arith))
-    (both (check (inLanes.laneFullCause (l .setting .n) (length xs / l .setting .k)) 13 0 (omega arith)) (coefficients (l .setting .p) xs ys)))
+pub sax-sum-never-12 : (s : Setting) (xs ys old : List ℕ) (r : Reply) (after : List ℕ) → GivesSum s xs ys old r after → r .number ≡ 12 → ⊥
+sax-sum-never-12 s xs ys old r after gives e =
+    let m : ℕ = roundedUp (length (fedPairs s xs ys)) (s .n) in
+    let a : Answer ℕ = wholeSumChecks s xs ys (length old) andThen answered m in
+    number-never a 12 (omega arith) (given-never 12 refl (given-then (sum-gives s xs ys (length old)) (given-value m)))
+    (sym (reply-number a) ∙ ap (λ (r : Reply). r .number) (sym (gives .0)) ∙ e)
 
-pub lane-reduce-never-0 : (l : Lane) (x : Float) → Never0 (inLanes.reduceChecks l x)
-unfolding inLanes.reduceChecks
-lane-reduce-never-0 l x = both (check (inLanes.heldCause l) 12 0 (omega arith)) (check (inLanes.improperCause (l .setting) x) 11 0 (omega arith))
+-- ---- the double lane
+
+-- a promise of the lane, by what it says: the checks, and then a value
+told-never-12 : (Keeps : LaneAnswer → Type 0) (r : LaneReply) (v : Verdict) (x : Float) → Never 12 v → ((a : LaneAnswer) → Keeps a → laneReply a ≡ laneReplyOf (v andThen answered x)) → Tells Keeps laneReply r → r .number ≡ 12 → ⊥
+told-never-12 Keeps r v x none told h e = go v none (sym (ap (λ (r : LaneReply). r .number) (h .is ∙ told (h .answer) (h .keeps))) ∙ e)
+  where
+    go : (v : Verdict) → Never 12 v → laneReplyOf (v andThen answered x) .number ≡ 12 → ⊥
+    go (answered u) none e = omega arith
+    go (refused number place) none e = none place (ap (λ (n : ℕ). refused n place) e)
+
+-- a refusal of make is none of a record
+unmade-never-12 : (s : Setting) (m : Made) (Then : Lane → LaneReply → Type 0) (r : LaneReply) → inLanes.Makes s m → byMade m Then r → ((l : Lane) → inLanes.Makes s (inMade.Lane l) → Then l r → r .number ≡ 12 → ⊥) → r .number ≡ 12 → ⊥
+unmade-never-12 s (inMade.Lane l) Then r makes gives rest e = rest l makes gives e
+unmade-never-12 s (inMade.Refused why) Then r makes gives rest e =
+    let a : Answer Lane = inLanes.makeChecks s andThen answered (inLanes.laneOf s) in
+    let is : why .number ≡ 12 = ap (λ (r : LaneReply). r .number) (sym gives) ∙ e in
+    given-never 12 refl (given-then (inLanes.make-gives s) (given-value (inLanes.laneOf s))) (why .place) (sym makes ∙ ap (λ (n : ℕ). refused n (why .place)) is)
+
+pub sax-lane-sum-never-12 : (s : Setting) (xs ys : List ℕ) (r : LaneReply) → GivesLaneSum s xs ys r → r .number ≡ 12 → ⊥
+sax-lane-sum-never-12 s xs ys r h =
+    unmade-never-12 s (h .made) (λ l. Tells (inLanes.LaneSums l xs ys) laneReply) r (h .makes) (h .gives)
+    (λ l makes. told-never-12 (inLanes.LaneSums l xs ys) r (inLanes.laneSumChecks l xs ys) (double (inLanes.sumWord (l .setting) xs ys)) (given-never 12 refl (held-sum-gives l xs ys (made-held s l makes))) (λ a keeps. ap laneReplyOf keeps))
+
+pub sax-lane-reduce-never-12 : (s : Setting) (x : Float) (r : LaneReply) → GivesLaneReduced s x r → r .number ≡ 12 → ⊥
+sax-lane-reduce-never-12 s x r h =
+    unmade-never-12 s (h .made) (λ l. Tells (inLanes.LaneReduces l x) laneReply) r (h .makes) (h .gives)
+    (λ l makes. told-never-12 (inLanes.LaneReduces l x) r (inLanes.reduceChecks l x) (double (reducedWord (l .setting) (wholePart x))) (given-never 12 refl (held-reduce-gives l x (made-held s l makes))) (λ a keeps. ap laneReplyOf keeps))

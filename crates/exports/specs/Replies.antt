@@ -1,13 +1,17 @@
 -- Answers in numbers. An exported function gives a number, a place and a value; a call of the library answers a value, or refuses with number and place.
 --     replyOf a                 the reply that an answer a is: number 0, place 0 and the value; or the refusal's number and place, and the value 0
 --     laneReplyOf a             the same, where the value is a double
+--     reply-value, lane-reply-value
+--                               a reply's value is the answer's
+--     reply-refused, lane-reply-refused
+--                               and of a refusal it has the number and the place
 --     chosenReply, packedReply, wroteReply, closedReply, laneReply
 --                               the reply that each case of an answer of the library is
 --     Tells Keeps reply r       r is the reply of an answer that keeps the promise Keeps
 --     tells-once                it allows one reply only, where the promise allows one answer only
 --     tells-written-once        and one list, where the promise is of an answer and a list
 use Prim.Native.Nat.{ℕ}
-use mathlib.Core.Path.{_≡_, sym, ap, _∙_}
+use mathlib.Core.Path.{_≡_, refl, sym, ap, _∙_}
 use mathlib.Core.List.{List}
 use lib.Ieee.{Float}
 use Rattle.doubles.specs.Whole.{double}
@@ -31,6 +35,18 @@ replyOf (refused number place) = record { number = number; place = place; value 
 abbrev pub laneReplyOf : Answer Float → LaneReply
 laneReplyOf (answered x) = record { number = 0; place = 0; value = x }
 laneReplyOf (refused number place) = record { number = number; place = place; value = double 0 }
+
+pub reply-value : (v : ℕ) → replyOf (answered v) .value ≡ v
+reply-value v = refl
+
+pub lane-reply-value : (x : Float) → laneReplyOf (answered x) .value ≡ x
+lane-reply-value x = refl
+
+pub reply-refused : (number place : ℕ) → (replyOf (refused number place) .number ≡ number) × (replyOf (refused number place) .place ≡ place)
+reply-refused number place = (refl, refl)
+
+pub lane-reply-refused : (number place : ℕ) → (laneReplyOf (refused number place) .number ≡ number) × (laneReplyOf (refused number place) .place ≡ place)
+lane-reply-refused number place = (refl, refl)
 
 abbrev pub chosenReply : Chosen → Reply
 chosenReply a = replyOf (chosenSays a)

@@ -15,17 +15,17 @@ use native.Mathlib.Omega.{arith}
 use lib.ListN.{length, take, drop}
 use lib.Seq.{take-add}
 use Rattle.polynomials.specs.Lists.{Pair}
-use Rattle.settings.specs.Answers.{Answer, answered, refused, Verdict, fine, _andThen_}
+use Rattle.settings.specs.Answers.{answered, refused, Verdict, fine, _andThen_}
 use Rattle.settings.specs.AnswerLaws.{never, passed-first}
 use Rattle.settings.specs.Bounds.{bounds}
 use Rattle.settings.specs.Settings.{settingChecks}
-use Rattle.packed.specs.Running.{Coherent, afterPairs, fedPairs, feedChecks, countedSays, countedOf, keptBy, freshSum, recordOf, Feeds, Closes}
+use Rattle.packed.specs.Running.{Coherent, afterPairs, fedPairs, feedChecks, countedSays, freshSum, recordOf, Feeds, Closes}
 use Rattle.packed.specs.Calls.{Call, ClosesTo}
 use Rattle.packed.specs.FedPairs.{fedSum, PairsToFeed}
 use Rattle.packed.specs.FedPairs as inFeeds
 use Rattle.packed.specs.RunningChecks.{pairs-pass, feed-taken, Told, feed-told}
 use Rattle.packed.specs.DemandThree.{demand-3}
-use Rattle.packed.specs.Joining.{feed-joined}
+use Rattle.packed.specs.Joining.{feed-joined, fedBy, fed-by}
 use Rattle.settings.specs.declared.setting.Setting.{Setting}
 use Rattle.settings.specs.declared.setting.Checked.the-variants as inChecked
 use Rattle.packed.specs.declared.running.Sum.{Sum}
@@ -63,20 +63,6 @@ fed-none r h =
     } in
     let same : r .sum ≡ fedSum s (r .sum) [] [] = sym (after-none s (r .sum) (fedPairs s [] []) (inFeeds.fed-count s [] [] ∙ none)) in
     subst (λ (m : ℕ). FedTo r [] [] r m) none (feed-taken r [] [] (r .sum) (pairs-pass r [] [] can) same)
-
--- a result that keeps feed's promise
-abbrev fedBy : Record → List ℕ → List ℕ → Fed
-fedBy r xs ys = record {
-  running = keptBy (feedChecks r xs ys) (recordOf (r .setting) (afterPairs (r .setting) (r .sum) (fedPairs (r .setting) xs ys))) r;
-  answer = countedOf (feedChecks r xs ys andThen answered (length xs / r .setting .k));
-}
-
-fed-by : (r : Record) (xs ys : List ℕ) → Feeds r xs ys (fedBy r xs ys)
-fed-by r xs ys = (says-of (feedChecks r xs ys andThen answered (length xs / r .setting .k)), refl)
-  where
-    says-of : (a : Answer ℕ) → countedSays (countedOf a) ≡ a
-    says-of (answered m) = refl
-    says-of (refused number place) = refl
 
 module _ (r : Record) (xs ys : List ℕ) (z : Record) (m : ℕ) (fed : FedTo r xs ys z m) where
   told : Told r xs ys (record { running = z; answer = inCounted.Pairs m })

@@ -10,11 +10,12 @@ use crate::calls::feed_in_calls;
 use crate::replies::LaneReply;
 use crate::replies::Reply;
 use crate::replies::lane_of_refusal;
-use crate::replies::of_chosen;
 use crate::replies::of_closed;
 use crate::replies::of_lane;
 use crate::replies::of_packed;
 use crate::replies::of_refusal;
+use crate::replies::of_unchosen;
+use crate::replies::of_value;
 use crate::replies::of_wrote;
 use lane::Made;
 use lane::make;
@@ -24,6 +25,7 @@ use packed::running::Counted;
 use packed::running::close;
 use packed::running::fresh;
 use settings::setting::Checked;
+use settings::setting::Chosen;
 use settings::setting::Setting;
 use settings::setting::choose;
 use tables::build;
@@ -36,7 +38,11 @@ use words::unpack;
 pub extern "C" fn sax_choose(p: u64, k: u64, n: u64) -> Reply
     ensures { λ r. ⌜ GivesWidth p k n r ⌝ }
 {
-    of_chosen(choose(p, k, n))
+    let chosen = choose(p, k, n);
+    let Chosen::Width(t) = chosen else {
+        return of_unchosen(chosen);
+    };
+    of_value(t)
 }
 
 // Pack: the value is the word.

@@ -1,6 +1,8 @@
 // What the exported functions give: the number of a refusal, or 0 where nothing was refused; its place; and the value, which is 0 beside a refusal.
 ghost use mathlib.Core.Path.{_≡_};
-ghost use Rattle.settings.specs.Answers.{answered, refused};
+ghost use mathlib.Core.Bool.{true};
+ghost use Rattle.settings.specs.Answers.{answered, refused, refuses};
+ghost use Rattle.settings.specs.Choices.{chosenSays};
 ghost use Rattle.exports.specs.Replies.{replyOf, laneReplyOf, chosenReply, packedReply, wroteReply, closedReply, laneReply};
 use lane::LaneAnswer;
 use packed::running::Closed;
@@ -24,13 +26,15 @@ pub struct LaneReply {
     pub value: f64,
 }
 
-pub(crate) fn of_chosen(answer: Chosen) -> Reply
+// What stands in the way of a width. It is asked only where there is none, so that the 0 is never told.
+pub(crate) fn of_unchosen(answer: Chosen) -> Reply
+    requires { ⌜ refuses (chosenSays answer) ≡ true ⌝ }
     ensures { λ r. ⌜ r ≡ chosenReply answer ⌝ }
 {
-    match answer {
-        Chosen::Width(t) => of_value(t),
-        Chosen::Refused(r) => of_refusal(r),
-    }
+    let Chosen::Refused(why) = answer else {
+        return of_value(0);
+    };
+    of_refusal(why)
 }
 
 pub(crate) fn of_packed(answer: Packed) -> Reply
@@ -73,7 +77,7 @@ pub(crate) fn of_lane(answer: LaneAnswer) -> LaneReply
     }
 }
 
-fn of_value(value: u64) -> Reply
+pub(crate) fn of_value(value: u64) -> Reply
     ensures { λ r. ⌜ r ≡ replyOf (answered value) ⌝ }
 {
     Reply {

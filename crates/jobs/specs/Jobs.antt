@@ -14,21 +14,23 @@
 --     pairsIn k cs                  coefficients in input order, taken as pairs: k of the first and k of the second
 --     headerChecks bs               17, 1 to 6, 17, 13: what the header decides
 --     jobChecks bs                  these, then 8 with the coefficient's index in the job, then 17
+--     job-gives                     the numbers that these can give, and no other
 --     jobPairs bs                   the pairs of a job, as packing takes them
 --     lineBy v line                 that line, or the line of the refusal
 --     jobLine bs                    the meaning of a job
 use Prim.Native.Nat.{ℕ, _+_, _-_, _*_, _/_, _%_}
 use mathlib.Core.Bool.{Bool, not, _||_}
-use mathlib.Core.List.{List}
+use mathlib.Core.List.{List, [], _∷_, _++_}
 use lib.Dec.{ltb, eqb}
 use lib.ListN.{length, take, drop}
 use Rattle.polynomials.specs.Indices.{upto, roundedUp}
 use Rattle.polynomials.specs.Lists.{Pair}
 use Rattle.polynomials.specs.Blocks.{block, pairsUpto}
 use Rattle.layout.specs.Numbers.{numberAt}
-use Rattle.settings.specs.Answers.{answered, refused, Verdict, refuse, _andThen_}
-use Rattle.settings.specs.Settings.{settingChecks}
-use Rattle.settings.specs.Coefficients.{coefficientCheck}
+use Rattle.settings.specs.Answers.{answered, refused, Verdict, refuse, _andThen_, Given}
+use Rattle.settings.specs.AnswerLaws.{given-check, given-then}
+use Rattle.settings.specs.Settings.{settingChecks, settingNumbers, setting-gives}
+use Rattle.settings.specs.Coefficients.{coefficientCheck, coefficient-gives}
 use Rattle.packed.specs.Taken.{taken}
 use Rattle.packed.specs.Running.{recordFullCause}
 use Rattle.packed.specs.Calls.{schoolbook}
@@ -95,6 +97,15 @@ headerChecks bs =
 
 unfoldable pub jobChecks : List ℕ → Verdict
 jobChecks bs = headerChecks bs andThen coefficientCheck (settingIn bs .p) (givenIn bs) andThen refuse (endCause bs) 17 0
+
+pub job-gives : (bs : List ℕ) → Given ((17 ∷ []) ++ (settingNumbers ++ (17 ∷ 13 ∷ 8 ∷ 17 ∷ []))) (jobChecks bs)
+unfolding jobChecks headerChecks
+job-gives bs =
+    given-then
+    (given-then (given-check (headerCause bs) 17 0)
+    (given-then (setting-gives (settingIn bs))
+    (given-then (given-check (raggedCause bs) 17 0) (given-check (recordFullCause 0 (declaredPairs bs)) 13 0))))
+    (given-then (coefficient-gives (settingIn bs .p) (givenIn bs)) (given-check (endCause bs) 17 0))
 
 abbrev pub lineBy : Verdict → List ℕ → List ℕ
 lineBy (answered x) line = line

@@ -20,17 +20,19 @@
 --     addingLine r pairs            17 for an early end, or the sums
 --     lineAt, lineOf st             the line that finish writes: refused 12 0 for a state that is not coherent
 --     finishChecks line len         10: a buffer of len bytes is lent for the line
+--     finish-gives                  which is the one number that it can give
 --     Starts, Takes, Finishes       the promises of start, take, finish; start-once, take-once, finish-once: each allows one result only
 use Prim.Native.Nat.{ℕ, _+_, _-_, _*_, _/_}
 use mathlib.Core.Path.{_≡_, sym, _∙_}
 use mathlib.Core.Bool.{Bool, not, _||_, _&&_}
-use mathlib.Core.List.{List, [], _++_}
+use mathlib.Core.List.{List, [], _∷_, _++_}
 use lib.Dec.{ltb, leb, eqb}
 use lib.ListN.{length, take, drop}
 use Rattle.polynomials.specs.Indices.{pick, upto, exceeds, roundedUp}
 use Rattle.polynomials.specs.Lists.{coefficient}
 use Rattle.settings.specs.Limits.{mostPairs, mostCoefficients}
-use Rattle.settings.specs.Answers.{answered, refused, Verdict, refuse, _andThen_}
+use Rattle.settings.specs.Answers.{answered, refused, Verdict, refuse, _andThen_, Given}
+use Rattle.settings.specs.AnswerLaws.{given-check}
 use Rattle.settings.specs.SharedAnswers.{shortCause, Writes, writes-once}
 use Rattle.settings.specs.Settings.{places, outside}
 use Rattle.settings.specs.Coefficients.{firstBad}
@@ -202,6 +204,9 @@ take-once st piece a b ha hb = ha ∙ sym hb
 
 abbrev pub finishChecks : List ℕ → ℕ → Verdict
 finishChecks line len = refuse (shortCause (length line) len) 10 0
+
+pub finish-gives : (line : List ℕ) (len : ℕ) → Given (10 ∷ []) (finishChecks line len)
+finish-gives line len = given-check (shortCause (length line) len) 10 0
 
 abbrev pub Finishes : State → List ℕ → Wrote → List ℕ → Type 0
 Finishes st old r after = Writes (finishChecks (lineOf st) (length old)) (lineOf st) old r after

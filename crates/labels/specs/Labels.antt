@@ -13,21 +13,22 @@
 --     levelCause, fewCause, manyCause       19 Level: above 8; 20 Few: no data words, to check at most m words; 21 Many: more than 928 words in all
 --     writeChecks s content len             19, 20, 21, 8, 10: a list of len words is lent for the label
 --     readChecks s words                    19, 20, 21, 8
+--     write-gives, read-gives               the numbers that these can give, and no other
 --     passingSays                           the answer that each case of Passing stands for; passingOf, the way back
 --     WritesLabel, ChecksLabel              the promises of write and check; write-once, check-once: each allows one result only
 use Prim.Native.Nat.{ℕ, _+_, _^_, _%_, _≤_}
 use mathlib.Core.Path.{_≡_, refl}
 use mathlib.Core.Bool.{Bool, true, false, not}
-use mathlib.Core.List.{List, _++_, reverse}
+use mathlib.Core.List.{List, [], _∷_, _++_, reverse}
 use lib.Dec.{leb, ltb}
 use lib.ListN.{length, replicate}
 use Rattle.polynomials.specs.Indices.{exceeds}
 use Rattle.divisions.specs.Divisions.{less, remainder}
 use Rattle.divisions.specs.Values.{value, withRoots}
-use Rattle.settings.specs.Answers.{Answer, answered, refused, Verdict, refuse, _andThen_}
-use Rattle.settings.specs.AnswerLaws.{once}
+use Rattle.settings.specs.Answers.{Answer, answered, refused, Verdict, refuse, _andThen_, Given}
+use Rattle.settings.specs.AnswerLaws.{once, given-check, given-then}
 use Rattle.settings.specs.SharedAnswers.{shortCause, Writes, writes-once}
-use Rattle.settings.specs.Coefficients.{coefficientCheck}
+use Rattle.settings.specs.Coefficients.{coefficientCheck, coefficient-gives}
 use Rattle.settings.specs.declared.answers.Wrote.{Wrote}
 use Rattle.labels.specs.declared.Passing.{Passing}
 use Rattle.labels.specs.declared.Passing.the-variants.{Passes, Fails, Refused}
@@ -110,6 +111,21 @@ readChecks s words =
     andThen refuse (fewCause (checkCount s) (length words)) 20 0
     andThen refuse (manyCause (length words)) 21 0
     andThen coefficientCheck modulus words
+
+pub write-gives : (s : ℕ) (content : List ℕ) (len : ℕ) → Given (19 ∷ 20 ∷ 21 ∷ 8 ∷ 10 ∷ []) (writeChecks s content len)
+unfolding writeChecks
+write-gives s content len =
+    given-then (given-check (levelCause s) 19 0)
+    (given-then (given-check (fewCause 0 (length content)) 20 0)
+    (given-then (given-check (manyCause (length content + checkCount s)) 21 0)
+    (given-then (coefficient-gives modulus content) (given-check (shortCause (length content + checkCount s) len) 10 0))))
+
+pub read-gives : (s : ℕ) (words : List ℕ) → Given (19 ∷ 20 ∷ 21 ∷ 8 ∷ []) (readChecks s words)
+unfolding readChecks
+read-gives s words =
+    given-then (given-check (levelCause s) 19 0)
+    (given-then (given-check (fewCause (checkCount s) (length words)) 20 0)
+    (given-then (given-check (manyCause (length words)) 21 0) (coefficient-gives modulus words)))
 
 -- ---- write
 

@@ -9,6 +9,8 @@
 --     sumWord s xs ys              the sum of products: the word of the schoolbook sums, unreduced
 --     improperCause s x            11 Word: x is no whole number from 0 to 2^((2k-1)t) - 1
 --     reduceChecks l x             12, 11
+--     make-gives, lane-sum-gives, lane-reduce-gives
+--                                  the numbers that each of these lists of checks can give, and no other
 --     madeSays, laneSays           what each case of an answer stands for; madeOf, laneAnswerOf, the way back
 --     Makes s r, LaneSums l xs ys r, LaneReduces l x r
 --                                  the promises of make, sum and reduce
@@ -17,17 +19,17 @@
 use Prim.Native.Nat.{ℕ, _/_, _^_}
 use mathlib.Core.Path.{_≡_, refl}
 use mathlib.Core.Bool.{Bool, not, _||_}
-use mathlib.Core.List.{List}
+use mathlib.Core.List.{List, [], _∷_, _++_}
 use lib.Dec.{ltb, leb}
 use lib.ListN.{length}
 use lib.Ieee.{Float}
 use Rattle.polynomials.specs.Lists.{sumOfProducts}
 use Rattle.polynomials.specs.Places.{packed}
 use Rattle.doubles.specs.Whole.{double, wholePart, isWhole, inverse, differsInBits}
-use Rattle.settings.specs.Answers.{Answer, answered, refused, Verdict, refuse, refuses, _andThen_}
-use Rattle.settings.specs.AnswerLaws.{once}
-use Rattle.settings.specs.Settings.{settingChecks, base, spanOf}
-use Rattle.settings.specs.Coefficients.{coefficientsCheck}
+use Rattle.settings.specs.Answers.{Answer, answered, refused, Verdict, refuse, refuses, _andThen_, Given}
+use Rattle.settings.specs.AnswerLaws.{once, given-check, given-then}
+use Rattle.settings.specs.Settings.{settingChecks, settingNumbers, setting-gives, base, spanOf}
+use Rattle.settings.specs.Coefficients.{coefficientsCheck, coefficients-gives}
 use Rattle.words.specs.Places.{reducedWord}
 use Rattle.packed.specs.Running.{fedPairs, pairsCause}
 use Rattle.settings.specs.declared.setting.Setting.{Setting}
@@ -47,6 +49,10 @@ laneCause s = leb laneBits (spanOf s)
 
 unfoldable pub makeChecks : Setting → Verdict
 makeChecks s = settingChecks s andThen refuse (laneCause s) 16 0
+
+pub make-gives : (s : Setting) → Given (settingNumbers ++ (16 ∷ [])) (makeChecks s)
+unfolding makeChecks
+make-gives s = given-then (setting-gives s) (given-check (laneCause s) 16 0)
 
 abbrev pub laneOf : Setting → Lane
 laneOf s = record { setting = s; p = double (s .p); q = double (base s); inverse = inverse (s .p) }
@@ -94,6 +100,13 @@ laneSumChecks l xs ys =
     andThen refuse (laneFullCause (l .setting .n) (length xs / l .setting .k)) 13 0
     andThen coefficientsCheck (l .setting .p) xs ys
 
+pub lane-sum-gives : (l : Lane) (xs ys : List ℕ) → Given (12 ∷ 9 ∷ 13 ∷ 8 ∷ []) (laneSumChecks l xs ys)
+unfolding laneSumChecks
+lane-sum-gives l xs ys =
+    given-then (given-check (heldCause l) 12 0)
+    (given-then (given-check (pairsCause (l .setting .k) (length xs) (length ys)) 9 0)
+    (given-then (given-check (laneFullCause (l .setting .n) (length xs / l .setting .k)) 13 0) (coefficients-gives (l .setting .p) xs ys)))
+
 abbrev pub sumWord : Setting → List ℕ → List ℕ → ℕ
 sumWord s xs ys = packed (base s) (sumOfProducts (fedPairs s xs ys))
 
@@ -119,6 +132,10 @@ sum-once l xs ys a b = once laneSays laneAnswerOf lane-back a b (laneSumChecks l
 
 unfoldable pub reduceChecks : Lane → Float → Verdict
 reduceChecks l x = refuse (heldCause l) 12 0 andThen refuse (improperCause (l .setting) x) 11 0
+
+pub lane-reduce-gives : (l : Lane) (x : Float) → Given (12 ∷ 11 ∷ []) (reduceChecks l x)
+unfolding reduceChecks
+lane-reduce-gives l x = given-then (given-check (heldCause l) 12 0) (given-check (improperCause (l .setting) x) 11 0)
 
 abbrev pub LaneReduces : Lane → Float → LaneAnswer → Type 0
 LaneReduces l x r = laneSays r ≡ (reduceChecks l x andThen answered (double (reducedWord (l .setting) (wholePart x))))

@@ -5,5 +5,6 @@ pub mod ExactLaws
 pub mod SumLaws
 pub mod QuotientLaws
 pub mod ResidueLaws
+pub mod Answering
 pub mod Agreements
 pub mod Examples

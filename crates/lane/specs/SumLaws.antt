@@ -13,7 +13,7 @@
 --     pair-times, pair-plus, pair-next
 --                                     one pair more: what is asked on the way, and that it is the sum so far
 --     sum-all                         all pairs
-use Prim.Native.Nat.{ℕ, suc, _+_, _-_, _*_, _/_, _^_, _≤_, _<_}
+use Prim.Native.Nat.{ℕ, suc, _+_, _-_, _*_, _/_, _%_, _^_, _≤_, _<_}
 use mathlib.Core.Path.{_≡_, refl, sym, ap, _∙_}
 use mathlib.Core.List.{List}
 use native.Mathlib.Nat.{lt-of-le-of-lt, suc-mul, div-mul-le-self, mul-le-mul-right}
@@ -82,6 +82,7 @@ module _ {p : ℕ} {q : Float} {xs : List ℕ} (pre : PacksExactly p q xs) {w : 
 pub record Listed (s : Setting) (xs ys : List ℕ) : Type 0 where
   pub within : LaneBounds s
   pub same-size : length xs ≡ length ys
+  pub whole : length xs % s .k ≡ 0
   pub few : length xs / s .k ≤ s .n
   pub left-below : Below (s .p) xs
   pub right-below : Below (s .p) ys
@@ -94,10 +95,12 @@ listed l xs ys e =
     let b = passed (pairsCause (s .k) (length xs) (length ys)) 9 0 _ tt (a .1) in
     let c = passed (laneFullCause (s .n) (length xs / s .k)) 13 0 _ tt (b .1) in
     let within : LaneBounds s = held-within l (a .0) in
+    let shape = pairs-shape (s .k) (length xs) (length ys) .0 (b .0) in
     let below = coefficients-check (s .p) xs ys (omega (arith, within .bounded .range .choice .p-low)) .0 (c .1) in
     record {
       within = within;
-      same-size = pairs-shape (s .k) (length xs) (length ys) .0 (b .0) .0;
+      same-size = shape .0;
+      whole = shape .1;
       few = ltb-false (s .n) (length xs / s .k) (c .0);
       left-below = below .0;
       right-below = below .1;

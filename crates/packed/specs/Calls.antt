@@ -1,5 +1,7 @@
 -- Demand 3 in definitions: calls of feed, and what the record and closing are after them. Definitions only; DemandThree shows that it holds.
 --     Call, Calls r calls z         calls of feed, one after the other, from the record r to z, none refused: what each was given and what it gave
+--     Asked r calls z               the same of calls that may be refused: each keeps feed's promise on the record that the one before it gave
+--     AtPairs k calls               each call was given whole pairs, so that the calls cut their list at pairs
 --     lefts, rights                 all that the calls were given, as two flat lists
 --     schoolbook s cs               the schoolbook sum of the pairs' products modulo p, its 2k-1 coefficients
 --     ClosesTo s cs old a after     what demand 3 says of closing: that sum, and pairs / n, rounded up, as the number of reductions; 10 alone can refuse
@@ -32,6 +34,14 @@ pub record Call : Type 0 where
 abbrev pub Calls : Record → List Call → Record → Type 0
 Calls r [] z = r ≡ z
 Calls r (c ∷ cs) z = Feeds r (c .left) (c .right) (c .gave) × (refuses (countedSays (c .gave .answer)) ≡ false) × Calls (c .gave .running) cs z
+
+abbrev pub Asked : Record → List Call → Record → Type 0
+Asked r [] z = r ≡ z
+Asked r (c ∷ cs) z = Feeds r (c .left) (c .right) (c .gave) × Asked (c .gave .running) cs z
+
+abbrev pub AtPairs : ℕ → List Call → Type 0
+AtPairs k [] = Unit {0}
+AtPairs k (c ∷ cs) = (length (c .left) ≡ length (c .right)) × (length (c .left) % k ≡ 0) × AtPairs k cs
 
 abbrev pub lefts : List Call → List ℕ
 lefts [] = []

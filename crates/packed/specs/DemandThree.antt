@@ -3,8 +3,10 @@
 --     demand-3                and that it holds, however the pairs are cut into calls
 --     open-word               the open word is the packed sum of the open batch, and its fields are the coefficients of that sum
 --     any-order               neither order nor cutting matters to closing
+--     calls-cut               cutting refuses nothing: where one call with all pairs is taken, so is every call of those that cut them at pairs
 use Prim.Native.Nat.{ℕ, _+_, _/_, _%_}
 use mathlib.Core.Path.{_≡_, sym, ap, _∙_}
+use mathlib.Core.Bool.{false}
 use mathlib.Core.List.{List, [], _∷_, _++_, append-nil, append-assoc, Perm}
 use native.Mathlib.Nat.{zero-div}
 use native.Mathlib.Omega.{arith}
@@ -15,20 +17,21 @@ use Rattle.polynomials.specs.Lists.{coefficient, Pair, Pairs, sumOfProducts}
 use Rattle.polynomials.specs.Places.{packed, field}
 use Rattle.polynomials.specs.Pairs.{openBatch}
 use Rattle.polynomials.specs.PairLaws.{pairs-join, sums-order, length-order}
-use Rattle.settings.specs.Answers.{answered, Verdict, fine, refuse, _andThen_}
+use Rattle.settings.specs.Answers.{answered, Verdict, fine, refuse, refuses, _andThen_}
 use Rattle.settings.specs.SharedAnswers.{shortCause}
 use Rattle.settings.specs.AnswerLaws.{once}
 use Rattle.settings.specs.Settings.{settingChecks, base, places}
 use Rattle.packed.specs.Taken.{taken, taken-length}
-use Rattle.packed.specs.Running.{Coherent, closingAt, fedPairs, closeChecks, recordOf, Freshens, closedSays, closedOf, closed-back, Closes}
-use Rattle.packed.specs.Calls.{Call, Calls, lefts, rights, schoolbook, ClosesTo, sumOf}
+use Rattle.packed.specs.Running.{Coherent, closingAt, fedPairs, closeChecks, recordOf, Freshens, countedSays, Feeds, closedSays, closedOf, closed-back, Closes}
+use Rattle.packed.specs.Calls.{Call, Calls, Asked, AtPairs, lefts, rights, schoolbook, ClosesTo, sumOf}
 use Rattle.packed.specs.FedPairs.{fedSum, fed-operands}
 use Rattle.packed.specs.RunningChecks.{Told, feed-told, close-pass}
-use Rattle.packed.specs.Joining.{fresh-coherent, fed-coherent, joined-pairs}
+use Rattle.packed.specs.Joining.{fresh-coherent, fed-coherent, joined-pairs, feed-cut, fedBy, fed-by}
 use Rattle.packed.specs.SumOfPairs.{batch-fields, parts-operands, rest-few, closing-sum, sum-more, sum-none}
 use Rattle.settings.specs.declared.setting.Setting.{Setting}
 use Rattle.packed.specs.declared.running.Record.{Record}
 use Rattle.packed.specs.declared.running.Begun.{Begun}
+use Rattle.packed.specs.declared.running.Fed.{Fed}
 use Rattle.packed.specs.declared.running.Closed.{Closed}
 
 pub record Demand3 (s : Setting) (cs : List Pair) (z : Record) : Type 0 where
@@ -108,3 +111,17 @@ module _ (s : Setting) (ok : settingChecks s ≡ fine) where
         once closedSays closedOf closed-back x u (short andThen answered (roundedUp (length ds) (s .n))) (rw (length-order cs ds order) at (first .0)) (second .0),
         first .1 ∙ rw sums (sym (second .1)),
       )
+
+-- ---- cutting refuses nothing
+
+pub calls-cut : (r : Record) (calls : List Call) (z : Record) (h : Fed) → AtPairs (r .setting .k) calls → Asked r calls z → Feeds r (lefts calls) (rights calls) h → refuses (countedSays (h .answer)) ≡ false
+    → Calls r calls z
+calls-cut r [] z h at-pairs asked whole taken = asked
+calls-cut r (c ∷ calls) z h at-pairs asked whole taken =
+    let us = lefts calls in
+    let vs = rights calls in
+    let cut = feed-cut r (c .left) (c .right) us vs h (c .gave) (at-pairs .0) (at-pairs .1) whole taken (asked .0) in
+    let next : Record = c .gave .running in
+    let same : next .setting ≡ r .setting = ap (λ (r : Record). r .setting) (feed-told r (c .left) (c .right) (c .gave) (asked .0) (cut .0) .after) in
+    let rest : refuses (countedSays (fedBy next us vs .answer)) ≡ false = cut .1 (fedBy next us vs) (fed-by next us vs) .0 in
+    (asked .0, cut .0, calls-cut next calls z (fedBy next us vs) (rw same (at-pairs .2)) (asked .1) (fed-by next us vs) rest)

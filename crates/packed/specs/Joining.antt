@@ -3,23 +3,25 @@
 --     fed-coherent, feed-coherent    a coherent record stays coherent, whatever it is fed
 --     joined-pairs                   the pairs of lists that are joined are those of the first, then those of the second
 --     feed-joined                    feeding two lists one after the other is feeding them joined, from any coherent record
-use Prim.Native.Nat.{ℕ, _+_, _*_, _/_, _^_}
+--     feed-cut                       and back: where lists joined at a pair's end are taken, the first are, and then the others, with the same record
+--     fedBy, fed-by                  a result that keeps feed's promise
+use Prim.Native.Nat.{ℕ, _+_, _*_, _/_, _%_, _^_, _<_}
 use mathlib.Core.Path.{_≡_, refl, sym, ap, _∙_}
 use mathlib.Core.Bool.{false}
 use mathlib.Core.List.{List, [], _++_}
-use native.Mathlib.Nat.{zero-div, zero-mod, div-add-mod', add-mul}
+use native.Mathlib.Nat.{zero-div, zero-mod, div-add-mod', add-mul, add-mul-mod-self-right, add-mul-div-right}
 use native.Mathlib.Omega.{arith}
 use lib.ListN.{length, length-append, replicate}
 use lib.Pow.{pow-pos}
 use Rattle.polynomials.specs.Lists.{coefficient, Pairs}
-use Rattle.polynomials.specs.ListLaws.{coefficient-zeros, below-join}
+use Rattle.polynomials.specs.ListLaws.{coefficient-zeros, below-join, below-parts}
 use Rattle.polynomials.specs.PairLaws.{flat-join}
 use Rattle.settings.specs.Limits.{residuePlaces}
-use Rattle.settings.specs.Answers.{answered, refused, Verdict, fine, refuses}
+use Rattle.settings.specs.Answers.{Answer, answered, refused, Verdict, fine, refuses, _andThen_}
 use Rattle.settings.specs.Settings.{settingChecks, base, spanOf}
 use Rattle.packed.specs.Taken.{taken, taken-length, taken-join}
 use Rattle.settings.specs.Bounds.{bounds}
-use Rattle.packed.specs.Running.{Coherent, fedPairs, pairChecks, countedSays, freshSum, recordOf, Feeds, feed-once}
+use Rattle.packed.specs.Running.{Coherent, fedPairs, pairChecks, feedChecks, countedSays, countedOf, keptBy, afterPairs, freshSum, recordOf, Feeds, feed-once}
 use Rattle.packed.specs.RunningLaws.{after-join, after-total, coherent-after}
 use Rattle.packed.specs.FedPairs.{PairsToFeed, fedSum, fed-operands, fed-count}
 use Rattle.packed.specs.RunningChecks.{pairs-checked, pairs-pass, feed-refused, feed-fine, feed-taken, Told, feed-told}
@@ -101,3 +103,74 @@ feed-joined r xs ys us vs f g h hf nf hg ng hh =
     let made : ℕ → Fed = λ m. record { running = recordOf s end; answer = inCounted.Pairs m } in
     let taken : Feeds r (xs ++ us) (ys ++ vs) (made (length (xs ++ us) / s .k)) = feed-taken r (xs ++ us) (ys ++ vs) end (pairs-pass r (xs ++ us) (ys ++ vs) all) (sym (joined-sum s (r .sum) xs ys us vs (first .could))) in
     feed-once r (xs ++ us) (ys ++ vs) h (made (length (xs ++ us) / s .k)) hh taken ∙ ap made (joined-count s (r .sum) xs ys us vs (first .could)) ∙ rw (second .after)
+
+-- ---- and cut again
+
+module _ (s : Setting) (u : Sum) (xs ys us vs : List ℕ) (same : length xs ≡ length ys) (at-pair : length xs % s .k ≡ 0) (all : PairsToFeed s u (xs ++ us) (ys ++ vs)) where
+  some : 0 < s .k
+  some = bounds s (all .coherent .accepted) .range .choice .k-low
+
+  left-size : length (xs ++ us) ≡ length us + length xs / s .k * s .k
+  left-size = omega (arith, length-append xs us, div-add-mod' (length xs) (s .k), at-pair)
+
+  rest-whole : length us % s .k ≡ 0
+  rest-whole = sym (add-mul-mod-self-right (length us) (length xs / s .k) (s .k)) ∙ rw (← left-size) (all .whole)
+
+  both-counts : length (xs ++ us) / s .k ≡ length us / s .k + length xs / s .k
+  both-counts = ap (λ (n : ℕ). n / s .k) left-size ∙ add-mul-div-right (length us) (length xs / s .k) some
+
+  first-feeding : PairsToFeed s u xs ys
+  first-feeding = record {
+    coherent = all .coherent;
+    same-size = same;
+    whole = at-pair;
+    room = omega (arith, all .room, both-counts);
+    left-below = below-parts (s .p) xs us (all .left-below) .0;
+    right-below = below-parts (s .p) ys vs (all .right-below) .0;
+  }
+
+  rest-feeding : PairsToFeed s (fedSum s u xs ys) us vs
+  rest-feeding =
+      let total : fedSum s u xs ys .total ≡ u .total + length xs / s .k = after-total s u (fedPairs s xs ys) ∙ rw (fed-count s xs ys) in
+      record {
+        coherent = fed-coherent s u xs ys first-feeding;
+        same-size = omega (arith, length-append xs us, length-append ys vs, same, all .same-size);
+        whole = rest-whole;
+        room = rw total (omega (arith, all .room, both-counts));
+        left-below = below-parts (s .p) xs us (all .left-below) .1;
+        right-below = below-parts (s .p) ys vs (all .right-below) .1;
+      }
+
+-- a feed of lists that can be fed is not refused
+fed-taken : (r : Record) (xs ys : List ℕ) (f : Fed) → PairsToFeed (r .setting) (r .sum) xs ys → Feeds r xs ys f → refuses (countedSays (f .answer)) ≡ false
+fed-taken r xs ys f can promise = rw (promise .0, feed-fine r xs ys (pairs-pass r xs ys can))
+
+pub feed-cut : (r : Record) (xs ys us vs : List ℕ) (h f : Fed) → length xs ≡ length ys → length xs % r .setting .k ≡ 0 → Feeds r (xs ++ us) (ys ++ vs) h → refuses (countedSays (h .answer)) ≡ false
+    → Feeds r xs ys f
+    → (refuses (countedSays (f .answer)) ≡ false) × ((g : Fed) → Feeds (f .running) us vs g → (refuses (countedSays (g .answer)) ≡ false) × (g .running ≡ h .running))
+feed-cut r xs ys us vs h f same at-pair hh nh hf =
+    let s = r .setting in
+    let all : PairsToFeed s (r .sum) (xs ++ us) (ys ++ vs) = feed-told r (xs ++ us) (ys ++ vs) h hh nh .could in
+    let nf : refuses (countedSays (f .answer)) ≡ false = fed-taken r xs ys f (first-feeding s (r .sum) xs ys us vs same at-pair all) hf in
+    let after : f .running ≡ recordOf s (fedSum s (r .sum) xs ys) = feed-told r xs ys f hf nf .after in
+    let can : PairsToFeed (f .running .setting) (f .running .sum) us vs = rw after (rest-feeding s (r .sum) xs ys us vs same at-pair all) in (
+      nf,
+      λ g hg.
+          let ng : refuses (countedSays (g .answer)) ≡ false = fed-taken (f .running) us vs g can hg in
+          (ng, sym (ap (λ (z : Fed). z .running) (feed-joined r xs ys us vs f g h hf nf hg ng hh))),
+    )
+
+-- ---- some result of feed
+
+abbrev pub fedBy : Record → List ℕ → List ℕ → Fed
+fedBy r xs ys = record {
+  running = keptBy (feedChecks r xs ys) (recordOf (r .setting) (afterPairs (r .setting) (r .sum) (fedPairs (r .setting) xs ys))) r;
+  answer = countedOf (feedChecks r xs ys andThen answered (length xs / r .setting .k));
+}
+
+pub fed-by : (r : Record) (xs ys : List ℕ) → Feeds r xs ys (fedBy r xs ys)
+fed-by r xs ys = (says-of (feedChecks r xs ys andThen answered (length xs / r .setting .k)), refl)
+  where
+    says-of : (a : Answer ℕ) → countedSays (countedOf a) ≡ a
+    says-of (answered m) = refl
+    says-of (refused number place) = refl

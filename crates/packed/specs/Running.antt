@@ -13,6 +13,7 @@
 --     recordFullCause total pairs   13 Full: the total would pass 1,000,000
 --     pairChecks r xs ys            12, 9, 13, 8; feedChecks, these, then 18
 --     closeChecks r len             12, 10: a list of len elements is lent for the 2k-1 coefficients
+--     feed-gives, close-gives       the numbers that these can give, and no other
 --     countedSays, closedSays       the numbers that each case of an answer stands for; countedOf, closedOf, the way back, as counted-back, closed-back say
 --     keptBy v new old              the record handed back: as it was on a refusal, else the new one
 --     freshSum, recordOf s u        in a fresh record all but the setting is zero; the record of a setting and a sum
@@ -28,11 +29,11 @@ use Rattle.polynomials.specs.Lists.{coefficient, Below, Pair, batchMost}
 use Rattle.polynomials.specs.Places.{packed, field}
 use Rattle.polynomials.specs.Pairs.{pairsOf}
 use Rattle.settings.specs.Limits.{mostPairs, residuePlaces}
-use Rattle.settings.specs.Answers.{Answer, answered, refused, Verdict, fine, refuse, refuses, _andThen_, leftBy}
-use Rattle.settings.specs.AnswerLaws.{once}
+use Rattle.settings.specs.Answers.{Answer, answered, refused, Verdict, fine, refuse, refuses, _andThen_, leftBy, Given}
+use Rattle.settings.specs.AnswerLaws.{once, given-check, given-then}
 use Rattle.settings.specs.SharedAnswers.{shortCause}
 use Rattle.settings.specs.Settings.{settingChecks, base, places, spanOf, checkedSays, check-once}
-use Rattle.settings.specs.Coefficients.{coefficientsCheck}
+use Rattle.settings.specs.Coefficients.{coefficientsCheck, coefficients-gives}
 use Rattle.packed.specs.Taken.{taken}
 use Rattle.words.specs.Places.{wordCause}
 use Rattle.packed.specs.Overflow.{feedOverflow}
@@ -124,6 +125,19 @@ feedChecks r xs ys = pairChecks r xs ys andThen refuse (feedOverflow (r .setting
 
 unfoldable pub closeChecks : Record → ℕ → Verdict
 closeChecks r len = refuse (recordCause r) 12 0 andThen refuse (shortCause (places (r .setting)) len) 10 0
+
+pub feed-gives : (r : Record) (xs ys : List ℕ) → Given (12 ∷ 9 ∷ 13 ∷ 8 ∷ 18 ∷ []) (feedChecks r xs ys)
+unfolding feedChecks pairChecks
+feed-gives r xs ys =
+    given-then
+    (given-then (given-check (recordCause r) 12 0)
+    (given-then (given-check (pairsCause (r .setting .k) (length xs) (length ys)) 9 0)
+    (given-then (given-check (recordFullCause (r .sum .total) (length xs / r .setting .k)) 13 0) (coefficients-gives (r .setting .p) xs ys))))
+    (given-check (feedOverflow (r .setting) (openPairs (r .setting) (r .sum)) (r .sum .word) xs ys) 18 0)
+
+pub close-gives : (r : Record) (len : ℕ) → Given (12 ∷ 10 ∷ []) (closeChecks r len)
+unfolding closeChecks
+close-gives r len = given-then (given-check (recordCause r) 12 0) (given-check (shortCause (places (r .setting)) len) 10 0)
 
 -- ---- answers
 

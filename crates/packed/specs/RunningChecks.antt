@@ -3,14 +3,15 @@
 --     pairs-checked, pairs-pass     nothing is refused up to 8 exactly where the lists can be fed
 --     never-feeds-over              no batch of a coherent record reaches 2^64
 --     feed-refused, feed-fine       so feed refuses what is refused up to 8, and nothing else
+--     coherent-gives                of a coherent record it gives 9, 13 and 8, and no other number
 --     feed-nothing, feed-taken      what keeps feed's promise: the record as it was beside a refusal, and the sum after all pairs
 --     Told, feed-told               a feed that was not refused: the lists could be fed, what it answered, and the record after it
 --     close-checked, close-pass     what passing the checks of close says; what is left of them for a coherent record
 --     close-nothing, close-written  what keeps its promise: the list as it was beside a refusal, and the list filled
 use Prim.Native.Nat.{ℕ, zero, suc, _+_, _-_, _/_, _%_, _^_, _≤_, _<_, min}
-use mathlib.Core.Path.{_≡_, refl}
+use mathlib.Core.Path.{_≡_, refl, sym, _∙_}
 use mathlib.Core.Bool.{Bool, true, false, not, true≢false}
-use mathlib.Core.List.{List, _∷_}
+use mathlib.Core.List.{List, [], _∷_}
 use mathlib.Core.Logic.{_↔_}
 use native.Mathlib.Nat.{mod-lt}
 use native.Mathlib.Omega.{arith}
@@ -23,11 +24,11 @@ use Rattle.polynomials.specs.IndexLaws.{length-upto, upto-at, some-none}
 use Rattle.polynomials.specs.Lists.{coefficient, Pair, Pairs}
 use Rattle.polynomials.specs.Blocks.{blockAt, dot}
 use Rattle.settings.specs.Limits.{mostPairs, wordBits}
-use Rattle.settings.specs.Answers.{answered, refused, Verdict, fine, refuses, refuse}
-use Rattle.settings.specs.AnswerLaws.{once, passed, passed-last}
+use Rattle.settings.specs.Answers.{answered, refused, Verdict, fine, refuses, refuse, isIn, Given}
+use Rattle.settings.specs.AnswerLaws.{once, never, passed, passed-last, given-check, given-then}
 use Rattle.settings.specs.SharedAnswers.{shortCause}
 use Rattle.settings.specs.Settings.{base, places}
-use Rattle.settings.specs.Coefficients.{tooLarge, coefficients-check}
+use Rattle.settings.specs.Coefficients.{tooLarge, coefficients-check, coefficients-gives}
 use Rattle.packed.specs.Taken.{taken}
 use Rattle.settings.specs.Bounds.{bounds, pairs-fit}
 use Rattle.packed.specs.Overflow.{runSums, feedOverflow}
@@ -136,6 +137,21 @@ feed-refused r xs ys number place e = rw e
 pub feed-fine : (r : Record) (xs ys : List ℕ) → pairChecks r xs ys ≡ fine → feedChecks r xs ys ≡ fine
 unfolding feedChecks
 feed-fine r xs ys e = rw (e, never-feeds-over (r .setting) (r .sum) xs ys (pairs-checked r xs ys e))
+
+module _ (r : Record) (xs ys : List ℕ) (h : Coherent (r .setting) (r .sum)) where
+  before-8 : Given (9 ∷ 13 ∷ 8 ∷ []) (pairChecks r xs ys)
+  unfolding pairChecks
+  before-8 =
+      rw (coherent-is r .1 h)
+      (given-then (given-check (pairsCause (r .setting .k) (length xs) (length ys)) 9 0)
+      (given-then (given-check (recordFullCause (r .sum .total) (length xs / r .setting .k)) 13 0) (coefficients-gives (r .setting .p) xs ys)))
+
+  pub coherent-gives : Given (9 ∷ 13 ∷ 8 ∷ []) (feedChecks r xs ys)
+  coherent-gives = record { each = go (pairChecks r xs ys) refl }
+    where
+      go : (v : Verdict) → pairChecks r xs ys ≡ v → (number place : ℕ) → feedChecks r xs ys ≡ refused number place → isIn number (9 ∷ 13 ∷ 8 ∷ []) ≡ true
+      go (answered u) e number place refusal = absurd (never number place tt (sym refusal ∙ feed-fine r xs ys e))
+      go (refused n i) e number place refusal = before-8 .each number place (e ∙ sym (feed-refused r xs ys n i e) ∙ refusal)
 
 pub feed-nothing : (r : Record) (xs ys : List ℕ) (why : Refusal) → pairChecks r xs ys ≡ refused (why .number) (why .place) → Feeds r xs ys (record { running = r; answer = inCounted.Refused why })
 feed-nothing r xs ys why e = let all = feed-refused r xs ys (why .number) (why .place) e in (rw all, rw all)

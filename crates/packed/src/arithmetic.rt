@@ -38,8 +38,8 @@ pub fn pack_taken(p: u64, t: u64, xs: &[u16]) -> u64
     w
 }
 
-// What packing takes of a coefficient: the coefficient itself, and p has no part in it yet. All that is packed is read here, so that a
-// rule which takes it modulo p would be put here alone.
+// What packing takes of a coefficient: the coefficient itself; p has no part in it. All that this crate packs is read here, so that a rule which takes it
+// modulo p has one place.
 fn taken_one(p: u64, x: u16) -> u64
     requires { ⌜ 0 < p ⌝ }
     ensures { λ r. ⌜ r ≡ takenOne p x ⌝ }

@@ -6,7 +6,7 @@
 --     coefficient-zeros                    zeros at the high end change no coefficient
 --     length-part, coefficient-part, part-below
 --                                          a part: its length, what stands in it, and that a bound stays
---     below-join                           joined lists below c are below c
+--     below-join, below-parts              joined lists are below c exactly where both are
 --     filled-at, filled-after, length-filled
 --                                          a filled list: what was written, what was there, and its length
 --     length-LIST, coefficient-LIST        of a sum, a scaled list, a product, residues, each under that name
@@ -59,6 +59,13 @@ below-join c xs ys hx hy j = go (decLt j (length xs))
     go : Dec (j < length xs) → coefficient (xs ++ ys) j < c
     go (yes l) = rw (List·getD-append xs ys 0 j l) (hx j)
     go (no l) = rw (coefficient-after xs ys j (omega arith)) (hy (j - length xs))
+
+pub below-parts : (c : ℕ) (xs ys : List ℕ) → Below c (xs ++ ys) → Below c xs × Below c ys
+below-parts c xs ys h = (λ j. go j (decLt j (length xs)), λ j. rw (getD-append-add xs ys j 0) at (h (length xs + j)))
+  where
+    go : (j : ℕ) → Dec (j < length xs) → coefficient xs j < c
+    go j (yes l) = rw (List·getD-append xs ys 0 j l) at (h j)
+    go j (no l) = rw (coefficient-past xs j (omega arith)) (omega (arith, h 0))
 
 -- a filled list: what was written, what was there, and its length
 pub filled-at : (m : ℕ) (f : ℕ → ℕ) (old : List ℕ) (i : ℕ) → i < m → coefficient (filled m f old) i ≡ f i

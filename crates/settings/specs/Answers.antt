@@ -6,12 +6,17 @@
 --     refuses a           whether an answer is a refusal
 --     wrote v new         a call that only writes answers how many elements it wrote
 --     leftBy v new old    the lent list afterwards: old contents on a refusal, else the new elements and those after them as they were
+--     isIn n ns           n is one of the numbers ns
+--     Given ns a          where the answer a is a refusal, its number is one of ns
+--     Never n a           the answer a is no refusal with the number n
 --     numbers             an answer in numbers: the refusal's number (0 for none), its place, and the value's own
 -- The place is the first bad index for 8 and 11 in a list and for 15, otherwise 0. A refusal added later takes the next free number,
 -- and place 0 unless it names one.
 use Prim.Native.Nat.{ℕ}
-use mathlib.Core.Bool.{Bool, true, false}
+use mathlib.Core.Path.{_≡_}
+use mathlib.Core.Bool.{Bool, true, false, _||_}
 use mathlib.Core.List.{List, [], _∷_, _++_}
+use lib.Dec.{eqb}
 use lib.ListN.{length, drop}
 
 infixr 20 _andThen_
@@ -43,6 +48,16 @@ wrote v new = v andThen answered (length new)
 abbrev pub leftBy : {A : Type 0} → Verdict → List A → List A → List A
 leftBy (answered u) new old = new ++ drop (length new) old
 leftBy (refused number place) new old = old
+
+abbrev pub isIn : ℕ → List ℕ → Bool
+isIn n [] = false
+isIn n (m ∷ ms) = eqb n m || isIn n ms
+
+pub record Given {A : Type 0} (ns : List ℕ) (a : Answer A) : Type 0 where
+  pub each : (number place : ℕ) → a ≡ refused number place → isIn number ns ≡ true
+
+abbrev pub Never : {A : Type 0} → ℕ → Answer A → Type 0
+Never n a = (place : ℕ) → a ≡ refused n place → ⊥
 
 abbrev pub numbers : {A : Type 0} → (A → List ℕ) → Answer A → List ℕ
 numbers values (answered v) = 0 ∷ 0 ∷ values v

@@ -1,26 +1,29 @@
 -- What an accepted setting gives. Assumes nothing.
 --     Bounds s       the ranges of p, k, t, n; and, from 5 and 6, that fields, words and batches fit
---     bounds         a setting that no check refuses has these bounds: the one law that looks into 5 and 6
+--     Rows s         what 1 to 6 leave, row by row, in numbers
+--     rows-exactly   check accepts exactly these settings: with bounds, the one law that looks into 5 and 6
+--     bounds         a setting that no check refuses has these bounds
 --     batch-within   the coefficients of a sum of up to n products are bounded as fields are
 --     pairs-fit      the packed products of up to n pairs add up to less than 2^64
 use Prim.Native.Nat.{ℕ, suc, _+_, _-_, _*_, _^_, _≤_, _<_}
 use mathlib.Core.Path.{_≡_, sym, _∙_}
 use mathlib.Core.List.{List}
+use mathlib.Core.Logic.{_↔_}
 use native.Mathlib.Nat.{le-trans, lt-of-le-of-lt, lt-of-lt-of-le, le-mul-of-pos-right, mul-le-mul-right, mul-le-mul, mul-pos, mul-comm, pow-succ'}
 use native.Mathlib.Decide.{decLt}
 use native.Mathlib.Omega.{arith}
 use lib.ListN.{length}
 use lib.Pow.{pow-mono}
-use borrow.Author.Tests.{leb-false}
+use borrow.Author.Tests.{lt-leb, leb-false}
 use Rattle.polynomials.specs.Lists.{coefficient, product, Within, Operand, Pair, Pairs, sumOfProducts, batchMost}
 use Rattle.polynomials.specs.Places.{packed, sumOfWords}
 use Rattle.polynomials.specs.BoundLaws.{product-most, batch-most, batch-more, batch-narrow, batch-past}
 use Rattle.polynomials.specs.PlaceLaws.{packed-product, packed-sumOfProducts, packed-top, power-power}
-use Rattle.settings.specs.Limits.{wordBits}
+use Rattle.settings.specs.Limits.{largestModulus, mostCoefficients, largestBatch, widest, wordBits}
 use Rattle.settings.specs.Answers.{fine}
 use Rattle.settings.specs.AnswerLaws.{passed, passed-last}
 use Rattle.settings.specs.Settings.{modulusCause, lengthCause, batchCause, widthCause, narrowCause, roomCause, settingChecks, base, batchTop, spanOf, InRange}
-use Rattle.settings.specs.SettingLaws.{in-choice, in-range}
+use Rattle.settings.specs.SettingLaws.{range-passes, in-choice, in-range}
 use Rattle.settings.specs.declared.setting.Setting.{Setting}
 
 pub record Bounds (s : Setting) : Type 0 where
@@ -37,10 +40,10 @@ pub record Bounds (s : Setting) : Type 0 where
   pub word-fits : (xs : List ℕ) → Operand (s .p) (s .k) xs → packed (base s) xs < 2 ^ 32
 
 -- what 1 to 6 leave, row by row
-record Rows (s : Setting) : Type 0 where
-  range : InRange s
-  wide : batchTop s < base s
-  room : spanOf s < wordBits
+pub record Rows (s : Setting) : Type 0 where
+  pub range : InRange s
+  pub wide : batchTop s < base s
+  pub room : spanOf s < wordBits
 
 rows : (s : Setting) → settingChecks s ≡ fine → Rows s
 unfolding settingChecks
@@ -56,6 +59,20 @@ rows s e =
       wide = leb-false (base s) (batchTop s) (f .0);
       room = leb-false wordBits (spanOf s) g;
     }
+
+pub rows-exactly : (s : Setting) → (settingChecks s ≡ fine) ↔ Rows s
+unfolding settingChecks
+rows-exactly s = (
+  rows s,
+  λ r. rw (
+    range-passes 2 largestModulus (s .p) (r .range .choice .p-low) (r .range .choice .p-high),
+    range-passes 1 mostCoefficients (s .k) (r .range .choice .k-low) (r .range .choice .k-high),
+    range-passes 1 largestBatch (s .n) (r .range .choice .n-low) (r .range .choice .n-high),
+    range-passes 1 widest (s .t) (r .range .t-low) (r .range .t-high),
+    lt-leb (base s) (batchTop s) (r .wide),
+    lt-leb wordBits (spanOf s) (r .room),
+  ),
+)
 
 module _ (s : Setting) (r : Rows s) where
   coefficient-below : s .p ≤ base s

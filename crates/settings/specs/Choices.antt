@@ -3,17 +3,19 @@
 --     smallestWidth p k n     the first width from 1 to 63 that does, and 64 where none does
 --     noneCause p k n         7 None: no t in 1..63 escapes both 5 and 6
 --     chooseAnswer p k n      1, 2, 3, 7 in order, and then the width
+--     choose-gives            it gives no other number
 --     chosenSays              the width, or number and place, that each case of choose's answer stands for; chosenOf, the way back
 --     Chooses p k n r         the promise of choose; choose-once: it allows one answer only
 use Prim.Native.Nat.{ℕ}
 use mathlib.Core.Path.{_≡_, refl}
 use mathlib.Core.Bool.{Bool, not, _&&_}
+use mathlib.Core.List.{[], _∷_}
 use lib.Dec.{ltb}
 use Rattle.polynomials.specs.Indices.{first}
 use Rattle.settings.specs.Limits.{widest}
-use Rattle.settings.specs.Answers.{Answer, answered, refused, refuse, _andThen_}
+use Rattle.settings.specs.Answers.{Answer, answered, refused, refuse, _andThen_, Given}
 use Rattle.settings.specs.Settings.{settingOf, modulusCause, lengthCause, batchCause, narrowCause, roomCause}
-use Rattle.settings.specs.AnswerLaws.{once}
+use Rattle.settings.specs.AnswerLaws.{once, given-value, given-check, given-then}
 use Rattle.settings.specs.declared.setting.Chosen.{Chosen}
 use Rattle.settings.specs.declared.setting.Chosen.the-variants.{Width, Refused}
 
@@ -33,6 +35,14 @@ chooseAnswer p k n =
     andThen refuse (batchCause n) 3 0
     andThen refuse (noneCause p k n) 7 0
     andThen answered (smallestWidth p k n)
+
+pub choose-gives : (p k n : ℕ) → Given (1 ∷ 2 ∷ 3 ∷ 7 ∷ []) (chooseAnswer p k n)
+unfolding chooseAnswer
+choose-gives p k n =
+    given-then (given-check (modulusCause p) 1 0)
+    (given-then (given-check (lengthCause k) 2 0)
+    (given-then (given-check (batchCause n) 3 0)
+    (given-then (given-check (noneCause p k n) 7 0) (given-value (smallestWidth p k n)))))
 
 abbrev pub chosenSays : Chosen → Answer ℕ
 chosenSays (Width t) = answered t

@@ -7,6 +7,8 @@
 --                               8 with that place, for one list and for two
 --     coefficient-check, coefficients-check
 --                               they pass exactly where every coefficient is below p
+--     coefficient-gives, coefficients-gives
+--                               they give no other number
 --     ChecksCoefficients p xs ys r
 --                               the promise of check_coefficients; check-coefficients-once: it allows one answer only
 --     NoneAbove most xs         no coefficient is above most
@@ -15,7 +17,7 @@
 use Prim.Native.Nat.{ℕ, _+_, _≤_, _<_, zero-le}
 use mathlib.Core.Path.{_≡_, refl, sym, _∙_}
 use mathlib.Core.Bool.{Bool, true, false}
-use mathlib.Core.List.{List}
+use mathlib.Core.List.{List, [], _∷_}
 use mathlib.Core.Logic.{_↔_}
 use native.Mathlib.Nat.{le-trans}
 use native.Mathlib.Decide.{decLt}
@@ -27,8 +29,8 @@ use Rattle.polynomials.specs.Indices.{pick, first, some}
 use Rattle.polynomials.specs.IndexLaws.{first-none}
 use Rattle.polynomials.specs.Lists.{coefficient, Below}
 use Rattle.polynomials.specs.ListLaws.{coefficient-past}
-use Rattle.settings.specs.Answers.{Verdict, fine, refuse}
-use Rattle.settings.specs.AnswerLaws.{passed-last}
+use Rattle.settings.specs.Answers.{Verdict, fine, refuse, Given}
+use Rattle.settings.specs.AnswerLaws.{passed-last, given-check}
 use Rattle.settings.specs.Settings.{checkedSays, checked-once}
 use Rattle.settings.specs.declared.setting.Checked.{Checked}
 
@@ -70,6 +72,12 @@ coefficientCheck p xs = refuse (some (tooLarge p xs) (length xs)) 8 (firstBad p 
 
 abbrev pub coefficientsCheck : ℕ → List ℕ → List ℕ → Verdict
 coefficientsCheck p xs ys = refuse (ltb (firstBadOfTwo p xs ys) (length xs + length ys)) 8 (firstBadOfTwo p xs ys)
+
+pub coefficient-gives : (p : ℕ) (xs : List ℕ) → Given (8 ∷ []) (coefficientCheck p xs)
+coefficient-gives p xs = given-check (some (tooLarge p xs) (length xs)) 8 (firstBad p xs)
+
+pub coefficients-gives : (p : ℕ) (xs ys : List ℕ) → Given (8 ∷ []) (coefficientsCheck p xs ys)
+coefficients-gives p xs ys = given-check (ltb (firstBadOfTwo p xs ys) (length xs + length ys)) 8 (firstBadOfTwo p xs ys)
 
 abbrev pub ChecksCoefficients : ℕ → List ℕ → List ℕ → Checked → Type 0
 ChecksCoefficients p xs ys r = checkedSays r ≡ coefficientsCheck p xs ys

@@ -8,5 +8,6 @@ pub mod Coefficients
 pub mod SharedAnswers
 pub mod AnswerLaws
 pub mod SettingLaws
+pub mod CoefficientLaws
 pub mod ChoiceLaws
 pub mod Bounds

@@ -10,6 +10,7 @@
 -- crate `packed` 9 in Packing, Products and Running, 12 and 13 in Running, 18 in Overflow; 14 and 15 in the crate `tables`; 16, and 11, 12 and 13 of the
 -- double lane, in the crate `lane`; 17, and 12 of a job's state, in the crate `jobs`; 19 to 21 in the crate `labels`.
 --     settingChecks     check a setting: 1 to 6 in order
+--     settingNumbers    the numbers that it can give; setting-gives: it gives no other
 --     base s            q = 2^t
 --     places s          2k-1, the fields of a product
 --     InChoice p k n    what 1 to 3 leave
@@ -20,10 +21,11 @@
 use Prim.Native.Nat.{ℕ, _-_, _*_, _^_, _≤_}
 use mathlib.Core.Path.{_≡_, refl}
 use mathlib.Core.Bool.{Bool, _||_}
+use mathlib.Core.List.{List, [], _∷_}
 use lib.Dec.{ltb, leb}
 use Rattle.settings.specs.Limits.{largestModulus, mostCoefficients, largestBatch, widest, wordBits}
-use Rattle.settings.specs.Answers.{answered, refused, Verdict, fine, refuse, _andThen_}
-use Rattle.settings.specs.AnswerLaws.{once}
+use Rattle.settings.specs.Answers.{answered, refused, Verdict, fine, refuse, _andThen_, Given}
+use Rattle.settings.specs.AnswerLaws.{once, given-check, given-then}
 use Rattle.settings.specs.declared.setting.Setting.{Setting}
 use Rattle.settings.specs.declared.setting.Checked.{Checked}
 use Rattle.settings.specs.declared.setting.Checked.the-variants.{Accepted, Refused}
@@ -72,6 +74,18 @@ settingChecks s =
     andThen refuse (widthCause (s .t)) 4 0
     andThen refuse (narrowCause s) 5 0
     andThen refuse (roomCause s) 6 0
+
+abbrev pub settingNumbers : List ℕ
+settingNumbers = 1 ∷ 2 ∷ 3 ∷ 4 ∷ 5 ∷ 6 ∷ []
+
+pub setting-gives : (s : Setting) → Given settingNumbers (settingChecks s)
+unfolding settingChecks
+setting-gives s =
+    given-then (given-check (modulusCause (s .p)) 1 0)
+    (given-then (given-check (lengthCause (s .k)) 2 0)
+    (given-then (given-check (batchCause (s .n)) 3 0)
+    (given-then (given-check (widthCause (s .t)) 4 0)
+    (given-then (given-check (narrowCause s) 5 0) (given-check (roomCause s) 6 0)))))
 
 pub record InChoice (p k n : ℕ) : Type 0 where
   pub p-low : 2 ≤ p

@@ -4,31 +4,37 @@
 --     table-checked               and then that holds
 --     table-range                 p and t are then in the range that a table's bytes have
 --     fits-through, fits-parted   a search for the first difference tells whether a buffer fits: it is through, or it has found one
+--     PartsAt buf bs i            the buffer starts as the bytes do, up to place i, where it has ended or has another byte
+--     stale-exactly               15 has the place i exactly where the buffer parts from the table there
 --     fits-size                   a buffer that fits is long enough
 --     fits-entries                and its entries are those of the table
 --     fits-looked-up              what it holds for place i of a word, at u_i + p u_(i+1) past the header, is m_i
 --     fits-header                 its first bytes are the header
 --     fits-changed                a buffer that differs from the table in one of its bytes never fits
 --     fits-only                   a buffer fits for one p and one t only, also where the entries of another table are the same
-use Prim.Native.Nat.{ℕ, suc, _+_, _-_, _*_, _≤_, _<_}
+use Prim.Native.Nat.{ℕ, suc, _+_, _-_, _*_, _≤_, _<_, zero-le}
 use mathlib.Core.Path.{_≡_, refl, sym, ap, _∙_}
-use mathlib.Core.Bool.{Bool, true, false}
+use mathlib.Core.Bool.{Bool, true, false, not, true≢false}
 use mathlib.Core.List.{List, _++_}
+use mathlib.Core.Logic.{_↔_}
 use native.Mathlib.Nat.{mod-lt}
+use native.Mathlib.Decide.{decLt}
 use native.Mathlib.Omega.{arith}
+use lib.Dec.{leb, ltb}
 use lib.ListN.{length, take, drop, length-take}
 use lib.Seq.{take-add, take-at, take-take, drop-at, getD-take, getD-drop, length-take-le}
-use borrow.Author.Tests.{le-leb, lt-leb, ltb-false}
+use borrow.Author.Tests.{le-leb, lt-leb, lt-ltb, le-ltb, ltb-false}
+use Rattle.polynomials.specs.Indices.{First, some}
 use Rattle.polynomials.specs.Lists.{coefficient}
 use Rattle.polynomials.specs.Places.{shifted, reduced}
 use Rattle.polynomials.specs.TableLaws.{table-place, looked-up}
 use Rattle.layout.specs.Numbers.{bigEndian-only}
-use Rattle.layout.specs.Beginnings.{firstDifference, starts-with, starts-with-first}
+use Rattle.layout.specs.Beginnings.{differsAt, firstDifference, agrees, starts-with, starts-with-first}
 use Rattle.settings.specs.Limits.{largestTableModulus, wordBits}
-use Rattle.settings.specs.Answers.{fine, refuse}
-use Rattle.settings.specs.AnswerLaws.{passed-first, passed-last}
+use Rattle.settings.specs.Answers.{refused, fine, refuse}
+use Rattle.settings.specs.AnswerLaws.{passed-first, passed-last, refuse-first}
 use Rattle.settings.specs.Settings.{settingChecks, base}
-use Rattle.tables.specs.Tables.{entries, table, headerSize, tableSize, noTableCause, fits, tableChecks}
+use Rattle.tables.specs.Tables.{entries, table, headerSize, tableSize, noTableCause, fits, staleCheck, tableChecks}
 use Rattle.settings.specs.Bounds.{Bounds, bounds}
 use Rattle.tables.specs.TableLaws.{header, header-length, table-parts, table-length}
 use Rattle.settings.specs.declared.setting.Setting.{Setting}
@@ -49,6 +55,48 @@ table-checked s e =
 
 pub table-range : (s : Setting) → Tabled s → (0 < s .p) × (s .p ≤ largestTableModulus) × (s .t < wordBits)
 table-range s h = (omega (arith, h .bounded .range .choice .p-low), h .small, omega (arith, h .bounded .range .t-high))
+
+pub record PartsAt (buf bs : List ℕ) (i : ℕ) : Type 0 where
+  pub inside : i < length bs
+  pub same : (j : ℕ) → j < i → (j < length buf) × (coefficient buf j ≡ coefficient bs j)
+  pub parts : (i < length buf) × (coefficient buf i ≡ coefficient bs i) → ⊥
+
+module _ (s : Setting) (buf : List ℕ) (i : ℕ) where
+  abbrev bytes : List ℕ
+  bytes = table (s .p) (s .t)
+
+  abbrev parted : ℕ → Bool
+  parted = differsAt buf bytes
+
+  as-search : not (fits s buf) ≡ some parted (length bytes)
+  as-search = rw (starts-with-first buf bytes) (go (decLt (firstDifference buf bytes) (length bytes)))
+    where
+      go : Dec (firstDifference buf bytes < length bytes) → not (leb (length bytes) (firstDifference buf bytes)) ≡ ltb (firstDifference buf bytes) (length bytes)
+      go (yes h) = rw (lt-leb (length bytes) (firstDifference buf bytes) h, lt-ltb (firstDifference buf bytes) (length bytes) h)
+      go (no h) = rw (le-leb (length bytes) (firstDifference buf bytes) (omega arith), le-ltb (firstDifference buf bytes) (length bytes) (omega arith))
+
+  pub stale-exactly : (staleCheck s buf ≡ refused 15 i) ↔ PartsAt buf bytes i
+  stale-exactly = (
+    λ e. let h = refuse-first parted (length bytes) 15 i .0 (rw as-search at e) in
+        record {
+          inside = h .1;
+          same = λ j l. agrees buf bytes j .0 (h .0 .none-before j zero-le l);
+          parts = λ both. true≢false (sym (h .0 .holds (omega (arith, h .1))) ∙ agrees buf bytes i .1 both);
+        },
+    λ h. rw as-search (refuse-first parted (length bytes) 15 i .1 (at h, h .inside)),
+  )
+    where
+      differs : (b : Bool) → parted i ≡ b → PartsAt buf bytes i → parted i ≡ true
+      differs true e h = e
+      differs false e h = absurd (h .parts (agrees buf bytes i .0 e))
+
+      at : PartsAt buf bytes i → First parted (length bytes) 0 i
+      at h = record {
+        low = zero-le;
+        high = omega (arith, h .inside);
+        none-before = λ j a l. agrees buf bytes j .1 (h .same j l);
+        holds = λ l. differs (parted i) refl h;
+      }
 
 module _ (s : Setting) (buf : List ℕ) where
   -- size and d are the table's size and the first difference, as the code has them

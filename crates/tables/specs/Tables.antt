@@ -13,6 +13,8 @@
 --     reducedWords s ws          one reduced word for each word: what reduce answers for it
 --     ReducesByTable s buf ws old r after
 --                                the promise of reduce by table
+--     table-gives, build-gives, by-table-gives
+--                                the numbers that each of these lists of checks can give, and no other
 --     firstThatFits v a b x y none
 --                                x where the first of two buffers fits, y where only the second does, none where neither does or a check refuses
 --     Picks s a b r              the promise of pick, for two buffers and the part handed back: what it holds and where it lies
@@ -25,16 +27,17 @@ use mathlib.Core.List.{List, [], _∷_, _++_}
 use lib.Dec.{ltb}
 use lib.ListN.{length}
 use denote.Ref.{RefT, now}
-use Rattle.polynomials.specs.Indices.{upto}
+use Rattle.polynomials.specs.Indices.{upto, some}
 use Rattle.polynomials.specs.Lists.{coefficient}
 use Rattle.polynomials.specs.Places.{entry}
 use Rattle.layout.specs.Numbers.{bigEndian}
 use Rattle.layout.specs.Beginnings.{startsWith, firstDifference}
 use Rattle.settings.specs.Limits.{largestTableModulus}
-use Rattle.settings.specs.Answers.{answered, refused, Verdict, refuse, _andThen_}
+use Rattle.settings.specs.Answers.{answered, refused, Verdict, refuse, _andThen_, Given}
+use Rattle.settings.specs.AnswerLaws.{given-check, given-then}
 use Rattle.settings.specs.SharedAnswers.{shortCause, Writes, writes-once}
-use Rattle.settings.specs.Settings.{settingChecks}
-use Rattle.words.specs.Places.{wordsCheck, reducedWord}
+use Rattle.settings.specs.Settings.{settingChecks, settingNumbers, setting-gives}
+use Rattle.words.specs.Places.{badWord, firstBadWord, wordsCheck, reducedWord}
 use Rattle.settings.specs.declared.setting.Setting.{Setting}
 use Rattle.settings.specs.declared.answers.Wrote.{Wrote}
 
@@ -73,10 +76,18 @@ staleCheck s buf = refuse (not (fits s buf)) 15 (firstDifference buf (table (s .
 unfoldable pub tableChecks : Setting → Verdict
 tableChecks s = settingChecks s andThen refuse (noTableCause (s .p)) 14 0
 
+pub table-gives : (s : Setting) → Given (settingNumbers ++ (14 ∷ [])) (tableChecks s)
+unfolding tableChecks
+table-gives s = given-then (setting-gives s) (given-check (noTableCause (s .p)) 14 0)
+
 -- ---- build
 
 unfoldable pub buildChecks : Setting → ℕ → Verdict
 buildChecks s len = tableChecks s andThen refuse (shortCause (tableSize (s .p)) len) 10 0
+
+pub build-gives : (s : Setting) (len : ℕ) → Given (settingNumbers ++ (14 ∷ 10 ∷ [])) (buildChecks s len)
+unfolding buildChecks
+build-gives s len = given-then (table-gives s) (given-check (shortCause (tableSize (s .p)) len) 10 0)
 
 abbrev pub Builds : Setting → List ℕ → Wrote → List ℕ → Type 0
 Builds s old r after = Writes (buildChecks s (length old)) (table (s .p) (s .t)) old r after
@@ -92,6 +103,13 @@ byTableChecks s buf ws len =
     andThen staleCheck s buf
     andThen refuse (shortCause (length ws) len) 10 0
     andThen wordsCheck s ws
+
+pub by-table-gives : (s : Setting) (buf ws : List ℕ) (len : ℕ) → Given (settingNumbers ++ (14 ∷ 15 ∷ 10 ∷ 11 ∷ [])) (byTableChecks s buf ws len)
+unfolding byTableChecks
+by-table-gives s buf ws len =
+    given-then (table-gives s)
+    (given-then (given-check (not (fits s buf)) 15 (firstDifference buf (table (s .p) (s .t))))
+    (given-then (given-check (shortCause (length ws) len) 10 0) (given-check (some (badWord s ws) (length ws)) 11 (firstBadWord s ws))))
 
 abbrev pub reducedWordAt : Setting → List ℕ → ℕ → ℕ
 reducedWordAt s ws i = reducedWord s (coefficient ws i)

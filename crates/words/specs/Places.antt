@@ -3,6 +3,8 @@
 --     wordChecks s w              the setting's checks, then 11
 --     firstBadWord s ws           the index of the first word that meets 11, and the length where there is none
 --     wordsCheck s ws             11 Word, with that place; wordsChecks s ws, the setting's checks, then this
+--     word-gives, words-gives, places-gives, reduce-gives
+--                                 the numbers that each of these lists of checks can give, and no other
 --     ChecksWord, ChecksWords     the promises of check_word and check_words: these checks, of a word and of a list
 --     placesChecks s w len        these, then 10: a list of len elements is lent for an element a place
 --     Unpacks s w old r after     the promise of unpack: the 2k-1 fields below q
@@ -16,15 +18,16 @@
 use Prim.Native.Nat.{ℕ, _^_}
 use mathlib.Core.Path.{_≡_}
 use mathlib.Core.Bool.{Bool}
-use mathlib.Core.List.{List}
+use mathlib.Core.List.{List, [], _∷_, _++_}
 use lib.Dec.{leb}
 use lib.ListN.{length}
 use Rattle.polynomials.specs.Indices.{upto, first, some}
 use Rattle.polynomials.specs.Lists.{coefficient}
 use Rattle.polynomials.specs.Places.{packed, fields, shifted, reduced}
-use Rattle.settings.specs.Answers.{Answer, answered, Verdict, refuse, _andThen_}
+use Rattle.settings.specs.Answers.{Answer, answered, Verdict, refuse, _andThen_, Given}
+use Rattle.settings.specs.AnswerLaws.{given-value, given-check, given-then}
 use Rattle.settings.specs.SharedAnswers.{packedSays, packed-once, shortCause, Writes, writes-once}
-use Rattle.settings.specs.Settings.{settingChecks, base, places, spanOf, checkedSays, checked-once}
+use Rattle.settings.specs.Settings.{settingChecks, settingNumbers, setting-gives, base, places, spanOf, checkedSays, checked-once}
 use Rattle.settings.specs.declared.setting.Setting.{Setting}
 use Rattle.settings.specs.declared.setting.Checked.{Checked}
 use Rattle.settings.specs.declared.answers.Packed.{Packed}
@@ -50,6 +53,18 @@ wordsChecks s ws = settingChecks s andThen wordsCheck s ws
 
 unfoldable pub placesChecks : Setting → ℕ → ℕ → Verdict
 placesChecks s w len = wordChecks s w andThen refuse (shortCause (places s) len) 10 0
+
+pub word-gives : (s : Setting) (w : ℕ) → Given (settingNumbers ++ (11 ∷ [])) (wordChecks s w)
+unfolding wordChecks
+word-gives s w = given-then (setting-gives s) (given-check (wordCause s w) 11 0)
+
+pub words-gives : (s : Setting) (ws : List ℕ) → Given (settingNumbers ++ (11 ∷ [])) (wordsChecks s ws)
+unfolding wordsChecks
+words-gives s ws = given-then (setting-gives s) (given-check (some (badWord s ws) (length ws)) 11 (firstBadWord s ws))
+
+pub places-gives : (s : Setting) (w len : ℕ) → Given (settingNumbers ++ (11 ∷ 10 ∷ [])) (placesChecks s w len)
+unfolding placesChecks
+places-gives s w len = given-then (word-gives s w) (given-check (shortCause (places s) len) 10 0)
 
 -- ---- 11 alone
 
@@ -89,6 +104,10 @@ reducedWord s w = packed (base s) (upto (places s) (reduced (s .p) (base s) w))
 
 unfoldable pub reduceAnswer : Setting → ℕ → Answer ℕ
 reduceAnswer s w = wordChecks s w andThen answered (reducedWord s w)
+
+pub reduce-gives : (s : Setting) (w : ℕ) → Given (settingNumbers ++ (11 ∷ [])) (reduceAnswer s w)
+unfolding reduceAnswer
+reduce-gives s w = given-then (word-gives s w) (given-value (reducedWord s w))
 
 abbrev pub Reduces : Setting → ℕ → Packed → Type 0
 Reduces s w r = packedSays r ≡ reduceAnswer s w

@@ -6,6 +6,7 @@
 --     word-checked     so it is where nothing is refused up to 11
 --     word-told        for an accepted setting 11 alone decides
 --     words-check      11 is given for no word of a list exactly where it is given for none of them alone
+--     words-refused    11 has the place i in a list exactly where word i meets it, and none before
 --     words-checked    for an accepted setting that alone decides, in a list too
 --     places-checked   and up to 10, where the list lent is long enough too
 use Prim.Native.Nat.{ℕ, suc, _-_, _*_, _/_, _^_, _≤_, _<_}
@@ -20,14 +21,14 @@ use lib.Dec.{leb}
 use lib.ListN.{length}
 use lib.Pow.{pow-pos}
 use borrow.Author.Tests.{le-leb, lt-leb, leb-false, ltb-false}
-use Rattle.polynomials.specs.Indices.{upto, some}
+use Rattle.polynomials.specs.Indices.{upto, First, some}
 use Rattle.polynomials.specs.IndexLaws.{length-upto, upto-at, upto-past, upto-most, some-none}
 use Rattle.polynomials.specs.Lists.{coefficient, Below, Within, batchMost}
 use Rattle.polynomials.specs.BoundLaws.{batch-past}
 use Rattle.polynomials.specs.Places.{packed}
 use Rattle.polynomials.specs.PlaceLaws.{packed-agree, packed-below, top-place, power-power}
-use Rattle.settings.specs.Answers.{fine, refuse, refuses}
-use Rattle.settings.specs.AnswerLaws.{passed-first, passed-last}
+use Rattle.settings.specs.Answers.{refused, fine, refuse, refuses}
+use Rattle.settings.specs.AnswerLaws.{passed-first, passed-last, refuse-first}
 use Rattle.settings.specs.SharedAnswers.{shortCause}
 use Rattle.settings.specs.Settings.{settingChecks, base, places, spanOf}
 use Rattle.words.specs.Places.{wordCause, wordChecks, badWord, firstBadWord, wordsCheck, wordsChecks, placesChecks}
@@ -88,6 +89,9 @@ word-told s w e = rw e (go (wordCause s w))
 
 pub words-check : (s : Setting) (ws : List ℕ) → (wordsCheck s ws ≡ fine) ↔ ((i : ℕ) → i < length ws → wordCause s (coefficient ws i) ≡ false)
 words-check s ws = (λ e. some-none (badWord s ws) (length ws) .0 (passed-last (some (badWord s ws) (length ws)) 11 (firstBadWord s ws) e), λ h. rw (some-none (badWord s ws) (length ws) .1 h))
+
+pub words-refused : (s : Setting) (ws : List ℕ) (i : ℕ) → (wordsCheck s ws ≡ refused 11 i) ↔ (First (badWord s ws) (length ws) 0 i × (i < length ws))
+words-refused s ws i = refuse-first (badWord s ws) (length ws) 11 i
 
 pub words-checked : (s : Setting) (ws : List ℕ) → settingChecks s ≡ fine → wordsChecks s ws ≡ wordsCheck s ws
 unfolding wordsChecks

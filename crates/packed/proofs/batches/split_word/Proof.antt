@@ -6,6 +6,7 @@ use native.Mathlib.Omega.{arith}
 use lib.ListN.{length}
 use borrow.Author.Needs.{needs}
 use Rattle.polynomials.specs.Indices.{filled}
+use Rattle.settings.specs.Limits.{residuePlaces}
 use Rattle.packed.specs.Running.{closingOf}
 use Rattle.packed.specs.declared.running.Sum.{Sum}
 use Rattle.packed.proofs.batches.split_word.Statement.{statement}
@@ -23,8 +24,8 @@ slice-aggregate-add-residues-2 c = search needs
 add-residues-requires : tie.Need-add-residues-requires
 add-residues-requires c κs =
     let range = c .before .before .before .before .before .pre .range in
-    let size : length (c .before .before .before .before .before .args .sum .residues) ≡ 15 = search needs in
-    let few : c .before .before .places .result ≤ 15 = omega (arith, c .before .before .places .ensures, range .choice .k-high) in
+    let size : length (c .before .before .before .before .before .args .sum .residues) ≡ residuePlaces = search needs in
+    let few : c .before .before .places .result ≤ residuePlaces = omega (arith, c .before .before .places .ensures, range .choice .k-high) in
     (omega (arith, range .choice .p-low), range .choice .p-high, omega (arith, range .t-high), omega arith, omega arith)
 
 returns : tie.Need-returns

@@ -5,6 +5,7 @@ use native.Mathlib.Omega.{arith}
 use lib.ListN.{length}
 use denote.Ref.{now}
 use borrow.Author.Needs.{needs}
+use Rattle.settings.specs.Limits.{residuePlaces}
 use Rattle.settings.specs.Answers.{fine}
 use Rattle.settings.specs.Settings.{checkedSays, places}
 use Rattle.settings.specs.Bounds.{Bounds, bounds}
@@ -41,8 +42,8 @@ slice-aggregate-add-residues c = search needs
 add-residues-requires : tie.Need-add-residues-requires
 add-residues-requires c κs =
     let range = bounded (c .before .before .before .before .before .before) .range in
-    let size : length (c .before .before .before .before .before .before .before .before .before .before .args .running .sum .residues) ≡ 15 = search needs in
-    let few : c .before .before .places .result ≤ 15 = omega (arith, c .before .before .places .ensures, range .choice .k-high) in
+    let size : length (c .before .before .before .before .before .before .before .before .before .before .args .running .sum .residues) ≡ residuePlaces = search needs in
+    let few : c .before .before .places .result ≤ residuePlaces = omega (arith, c .before .before .places .ensures, range .choice .k-high) in
     (omega (arith, range .choice .p-low), range .choice .p-high, omega (arith, range .t-high), omega arith, omega (arith, c .before .before .places .ensures, close-checked _ _ (passed (c .before .before .before .before .before .before)) .1))
 
 rounded-up-requires : tie.Need-rounded-up-requires
