@@ -12,7 +12,7 @@
 --     demand-2                and that it holds, for every accepted setting
 --     same-list               with the table or without, unpacking leaves the same list
 use Prim.Native.Nat.{ℕ, zero, suc, _*_, _+_, _%_, _^_, _≤_, _<_}
-use mathlib.Core.Path.{_≡_, refl, sym, ap, _∙_}
+use mathlib.Core.Path.{_≡_, refl, sym, _∙_}
 use mathlib.Core.Bool.{true}
 use mathlib.Core.List.{List, [], _∷_, _++_}
 use native.Mathlib.Nat.{lt-of-le-of-lt}

@@ -1,5 +1,4 @@
 -- The starred examples of document 01, as one table: what the definitions give, beside what the document prints.
---     Row                a row of the table, both sides in numbers
 --     value, none        what the document prints: a width or a word; "None", which is refusal 7
 --     written            what it prints of a call that fills a list or a buffer: its elements
 --     fedTimes           a record fed one pair some times; wordAfter, residuesAfter, closingAfter, what it prints of it
@@ -11,7 +10,7 @@
 use Prim.Native.Nat.{ℕ, zero, suc, _*_}
 use mathlib.Core.Path.{_≡_, refl, ap}
 use native.Mathlib.Omega.{arith}
-use mathlib.Core.List.{List, [], _∷_, map}
+use mathlib.Core.List.{List, [], _∷_}
 use lib.ListN.{length, replicate, take}
 use Rattle.polynomials.specs.Indices.{upto, first, roundedUp}
 use Rattle.polynomials.specs.Places.{fields, shifted}
@@ -25,14 +24,11 @@ use Rattle.packed.specs.Packing.{packAnswer}
 use Rattle.tables.specs.Tables.{table, tableChecks, buildChecks}
 use Rattle.packed.specs.Overflow.{feedOverflow}
 use Rattle.packed.specs.Running.{sumCause, recordCause, closingAt, afterPairs, fedPairs, pairChecks, feedChecks, closeChecks, keptBy, freshSum, recordOf, Feeds}
+use Rattle.examples.specs.Compared.{Row, Agree, checking}
 use Rattle.settings.specs.declared.setting.Setting.{Setting}
 use Rattle.packed.specs.declared.running.Record.{Record}
 use Rattle.packed.specs.declared.running.Counted.{Counted}
 use Rattle.packed.specs.declared.running.Counted.the-variants.{Pairs}
-
-pub record Row : Type 0 where
-  pub gives : List ℕ
-  pub prints : List ℕ
 
 value : ℕ → List ℕ
 value v = 0 ∷ 0 ∷ v ∷ []
@@ -123,14 +119,11 @@ starred =
     ∷ closingAfter 3 2 (0 ∷ 0 ∷ 0 ∷ [])
     ∷ []
 
-pub starred-agree : map (λ (r : Row). r .gives) starred ≡ map (λ (r : Row). r .prints) starred
+pub starred-agree : Agree starred
 unfolding starred value none written answering choosing small packing reducing writing unpacking shifting building chooseAnswer noneCause smallestWidth escapes first settingChecks wordChecks placesChecks packAnswer reduceAnswer taken table tableChecks buildChecks fedTimes wordAfter residuesAfter closingAfter sumCause recordCause afterPairs feedOverflow pairChecks feedChecks closeChecks
 starred-agree = refl
 
 -- ---- what crates ask of each other
-
-checking : Verdict → List ℕ → Row
-checking v prints = record { gives = numbers (λ u. []) v; prints = prints }
 
 -- the numbers are counted by hand from document 01's rows: at p = 3, k = 2, t = 4 a word has (2k-1) t = 12 bits, and 4,095 is the last that 11 lets
 -- through; t = 3 is 5, since 2^3 <= 1 * 2 * 2^2
@@ -148,8 +141,8 @@ asked =
     ∷ record { gives = firstBad 3 (2 ∷ 0 ∷ []) ∷ firstBad 3 (2 ∷ 3 ∷ 3 ∷ []) ∷ []; prints = 2 ∷ 1 ∷ [] }
     ∷ []
 
-pub asked-agree : map (λ (r : Row). r .gives) asked ≡ map (λ (r : Row). r .prints) asked
-unfolding asked checking small first settingChecks wordChecks wordsChecks
+pub asked-agree : Agree asked
+unfolding asked small first settingChecks wordChecks wordsChecks
 asked-agree = refl
 
 -- ---- a feed that works on its first call and idles after

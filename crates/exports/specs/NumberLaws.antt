@@ -27,7 +27,7 @@ use Rattle.words.specs.Places.{placesChecks, places-gives, reducedWord, reduceA
 use Rattle.packed.specs.Packing.{packAnswer, pack-gives}
 use Rattle.packed.specs.Products.{productChecks, product-gives}
 use Rattle.packed.specs.Running.{fedPairs, freshSum, recordOf}
-use Rattle.packed.specs.RunningChecks.{coherent-gives}
+use Rattle.packed.specs.RunningChecks.{coherentNumbers, coherent-gives}
 use Rattle.packed.specs.Joining.{fresh-coherent}
 use Rattle.tables.specs.Tables.{buildChecks, build-gives, byTableChecks, by-table-gives}
 use Rattle.lane.specs.Lanes as inLanes
@@ -108,7 +108,7 @@ lane-reduce-never-0 l x = given-never 0 refl (inLanes.lane-reduce-gives l x)
 
 -- ---- sum
 
-pub sum-gives : (s : Setting) (xs ys : List ℕ) (len : ℕ) → Given (settingNumbers ++ (9 ∷ 13 ∷ 8 ∷ 10 ∷ [])) (wholeSumChecks s xs ys len)
+pub sum-gives : (s : Setting) (xs ys : List ℕ) (len : ℕ) → Given (settingNumbers ++ (coherentNumbers ++ (10 ∷ []))) (wholeSumChecks s xs ys len)
 unfolding wholeSumChecks
 sum-gives s xs ys len =
     given-after (setting-gives s) (λ ok. given-then (coherent-gives (recordOf s freshSum) xs ys (fresh-coherent s ok)) (given-check (shortCause (places s) len) 10 0))

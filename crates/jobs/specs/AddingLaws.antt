@@ -1,5 +1,4 @@
 -- Laws of pairs in bytes, and of adding them up. Assumes nothing.
---     below-parts                           of joined lists below p each is
 --     pairs-even                            two bytes a coefficient, 2k coefficients a pair
 --     share                                 how often b goes into m b and more
 --     coefficients-join, pairs-in-join      the coefficients of joined bytes, and the pairs of joined coefficients, where the first are whole
@@ -11,12 +10,11 @@ use Prim.Native.Nat.{ℕ, _+_, _-_, _*_, _/_, _≤_, _<_}
 use mathlib.Core.Path.{_≡_, sym, ap, _∙_}
 use mathlib.Core.List.{List, _++_}
 use native.Mathlib.Nat.{add-comm, add-mul-div-right, mul-div-cancel, mul-assoc, div-div-eq-div-mul, div-eq-of-lt}
-use native.Mathlib.Decide.{decLt}
 use native.Mathlib.Omega.{arith}
 use lib.ListN.{length, length-append, List·getD-append}
 use Rattle.polynomials.specs.IndexLaws.{upto-same, upto-join}
-use Rattle.polynomials.specs.Lists.{coefficient, Below, Pairs}
-use Rattle.polynomials.specs.ListLaws.{coefficient-past, coefficient-after}
+use Rattle.polynomials.specs.Lists.{Below, Pairs}
+use Rattle.polynomials.specs.ListLaws.{coefficient-after}
 use Rattle.polynomials.specs.Blocks.{block, pairsUpto}
 use Rattle.polynomials.specs.BlockLaws.{block-operand, length-pairs, pairs-operands}
 use Rattle.polynomials.specs.PairLaws.{pairs-same, pairs-more, inside-first, inside-second}
@@ -56,19 +54,6 @@ coefficients-join m xs ys h =
     back i l =
         numberAt-same (xs ++ ys) ys (2 * (m + i)) (2 * i) 2
         (λ r lr. let e : 2 * (m + i) + r - length xs ≡ 2 * i + r = omega arith in coefficient-after xs ys (2 * (m + i) + r) (omega arith) ∙ rw e)
-
-pub below-parts : (p : ℕ) (xs ys : List ℕ) → 0 < p → Below p (xs ++ ys) → Below p xs × Below p ys
-below-parts p xs ys some h = (λ j. left j (decLt j (length xs)), right)
-  where
-    left : (j : ℕ) → Dec (j < length xs) → coefficient xs j < p
-    left j (yes l) = rw (← List·getD-append xs ys 0 j l) (h j)
-    left j (no l) = rw (coefficient-past xs j (omega arith)) some
-
-    right : (j : ℕ) → coefficient ys j < p
-    right j =
-        let e : length xs + j - length xs ≡ j = omega arith in
-        let at : coefficient (xs ++ ys) (length xs + j) ≡ coefficient ys j = coefficient-after xs ys (length xs + j) (omega arith) ∙ rw e in
-        rw (← at) (h (length xs + j))
 
 -- ---- pairs in coefficients
 

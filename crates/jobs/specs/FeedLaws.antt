@@ -17,7 +17,7 @@ use lib.ListN.{length, take, drop, length-drop, take-append-drop}
 use lib.Seq.{getD-take, take-all, length-take-le, take-append-add}
 use Rattle.polynomials.specs.IndexLaws.{upto-same}
 use Rattle.polynomials.specs.Lists.{coefficient, Below}
-use Rattle.polynomials.specs.ListLaws.{coefficient-past}
+use Rattle.polynomials.specs.ListLaws.{coefficient-past, below-parts}
 use Rattle.polynomials.specs.Blocks.{block}
 use Rattle.polynomials.specs.PairLaws.{pairs-same}
 use Rattle.packed.specs.Taken.{taken, taken-at, taken-length}
@@ -34,7 +34,7 @@ use Rattle.jobs.specs.States.{sumAfter}
 use Rattle.jobs.specs.Apart.{blockSize, Parting, TakenApart}
 use Rattle.jobs.specs.Adding.{Feedable, Block}
 use Rattle.jobs.specs.ByteLaws.{length-coefficientsIn}
-use Rattle.jobs.specs.AddingLaws.{k-some, k-few, below-parts, pairs-even, coefficients-join, sum-after-join, sum-after-none, sum-total, sum-coherent}
+use Rattle.jobs.specs.AddingLaws.{k-some, k-few, pairs-even, coefficients-join, sum-after-join, sum-after-none, sum-total, sum-coherent}
 
 -- a place inside a block inside all of them
 inside : (k m r j : ℕ) → r < m → j < k → r * k + j < m * k
@@ -214,12 +214,11 @@ module _ (s : Setting) (u : Sum) (bs : List ℕ) (f : Feedable s u bs) where
 
     parts-below : Below (s .p) (coefficientsIn (take i bs)) × Below (s .p) (coefficientsIn chunk)
     parts-below =
-        let p-some : 0 < s .p = omega (arith, bounds s (f .coherent .accepted) .range .choice .p-low) in
         let m : ℕ = i / b + now .count in
         let split : coefficientsIn bs ≡ coefficientsIn (take (i + d) bs) ++ coefficientsIn (drop (i + d) bs) = ap coefficientsIn (sym (take-append-drop (i + d) bs)) ∙ coefficients-join (m * (2 * s .k)) (take (i + d) bs) (drop (i + d) bs) (pairs-even m (s .k) (length (take (i + d) bs)) (length-take-le (i + d) bs inside-all ∙ past)) in
-        let first : Below (s .p) (coefficientsIn (take (i + d) bs)) = below-parts (s .p) (coefficientsIn (take (i + d) bs)) (coefficientsIn (drop (i + d) bs)) p-some (rw split at (f .below)) .0 in
+        let first : Below (s .p) (coefficientsIn (take (i + d) bs)) = below-parts (s .p) (coefficientsIn (take (i + d) bs)) (coefficientsIn (drop (i + d) bs)) (rw split at (f .below)) .0 in
         let parted : coefficientsIn (take (i + d) bs) ≡ coefficientsIn (take i bs) ++ coefficientsIn chunk = ap coefficientsIn next ∙ coefficients-join (i / b * (2 * s .k)) (take i bs) chunk (pairs-even (i / b) (s .k) (length (take i bs)) begun) in
-        below-parts (s .p) (coefficientsIn (take i bs)) (coefficientsIn chunk) p-some (rw parted at first)
+        below-parts (s .p) (coefficientsIn (take i bs)) (coefficientsIn chunk) (rw parted at first)
 
     pub fed-block-fits : Block (fed .setting) (fed .sum) chunk
     fed-block-fits = rw (h .here) (record {

@@ -23,7 +23,7 @@ use borrow.Author.Tests.{lt-ltb, le-ltb, ltb-false, lt-leb}
 use Rattle.polynomials.specs.Indices.{First}
 use Rattle.polynomials.specs.IndexLaws.{upto-at, first-is, first-only}
 use Rattle.polynomials.specs.Lists.{coefficient, Below}
-use Rattle.polynomials.specs.ListLaws.{coefficient-after}
+use Rattle.polynomials.specs.ListLaws.{coefficient-after, below-parts}
 use Rattle.layout.specs.Numbers.{numberAt, numberAt-same}
 use Rattle.settings.specs.Answers.{answered, refused, Verdict, fine, refuse, _andThen_}
 use Rattle.settings.specs.AnswerLaws.{never, passed, passed-last}
@@ -38,7 +38,7 @@ use Rattle.jobs.specs.Jobs.{pairBytes, coefficientsIn}
 use Rattle.jobs.specs.States.{room, indexCheck, bodyChecks, wholeBytes, sumAfter, adding, settled, settling, pairsAfter}
 use Rattle.jobs.specs.Adding.{Adding, Feedable}
 use Rattle.jobs.specs.ByteLaws.{length-coefficientsIn}
-use Rattle.jobs.specs.AddingLaws.{k-some, below-parts, share, pairs-even, coefficients-join, sum-after-join, sum-after-none, sum-total, sum-coherent}
+use Rattle.jobs.specs.AddingLaws.{k-some, share, pairs-even, coefficients-join, sum-after-join, sum-after-none, sum-total, sum-coherent}
 
 -- whether pairs are added up at a stage
 abbrev pub adds : Stage → Bool
@@ -184,7 +184,7 @@ module _ (s : Setting) (u : Sum) (pairs : ℕ) (a : Adding s u pairs) where
 
     -- of joined coefficients each part is below p
     parts-below : Below (s .p) (coefficientsIn front) × Below (s .p) (coefficientsIn back)
-    parts-below = below-parts (s .p) (coefficientsIn front) (coefficientsIn back) p-some (rw (← coefficients-join (m2 * (2 * s .k)) front back even-front, both-parts) (f .below))
+    parts-below = below-parts (s .p) (coefficientsIn front) (coefficientsIn back) (rw (← coefficients-join (m2 * (2 * s .k)) front back even-front, both-parts) (f .below))
 
     pub pairs-left : u .total + m2 ≤ pairs
     pairs-left =

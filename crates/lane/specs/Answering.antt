@@ -10,7 +10,7 @@
 --     make-answers, sum-answers, reduce-answers
 --                                    and then the promises leave one answer, which is no refusal
 use Prim.Native.Nat.{ℕ, _/_, _^_, _<_}
-use mathlib.Core.Path.{_≡_, refl, sym, _∙_}
+use mathlib.Core.Path.{_≡_, refl, sym}
 use mathlib.Core.Bool.{false, not}
 use mathlib.Core.List.{List, [], _∷_}
 use mathlib.Core.Logic.{_↔_}

@@ -70,7 +70,7 @@ fn pack_double(p: u64, q: f64, xs: &[u16]) -> f64
     w
 }
 
-// What packing takes of a coefficient: the coefficient itself, and p has no part in it yet.
+// What packing takes of a coefficient: the coefficient itself; p has no part in it.
 fn taken_one(p: u64, x: u16) -> f64
     requires { ⌜ 0 < p ⌝ }
     ensures { λ r. ⌜ Held r (takenOne p x) ⌝ }

@@ -3,7 +3,8 @@
 --     pairs-checked, pairs-pass     nothing is refused up to 8 exactly where the lists can be fed
 --     never-feeds-over              no batch of a coherent record reaches 2^64
 --     feed-refused, feed-fine       so feed refuses what is refused up to 8, and nothing else
---     coherent-gives                of a coherent record it gives 9, 13 and 8, and no other number
+--     coherentNumbers, coherent-gives
+--                                   the numbers that it gives of a coherent record, and no other: 9, 13 and 8
 --     feed-nothing, feed-taken      what keeps feed's promise: the record as it was beside a refusal, and the sum after all pairs
 --     Told, feed-told               a feed that was not refused: the lists could be fed, what it answered, and the record after it
 --     close-checked, close-pass     what passing the checks of close says; what is left of them for a coherent record
@@ -138,18 +139,21 @@ pub feed-fine : (r : Record) (xs ys : List ℕ) → pairChecks r xs ys ≡ fine 
 unfolding feedChecks
 feed-fine r xs ys e = rw (e, never-feeds-over (r .setting) (r .sum) xs ys (pairs-checked r xs ys e))
 
+abbrev pub coherentNumbers : List ℕ
+coherentNumbers = 9 ∷ 13 ∷ 8 ∷ []
+
 module _ (r : Record) (xs ys : List ℕ) (h : Coherent (r .setting) (r .sum)) where
-  before-8 : Given (9 ∷ 13 ∷ 8 ∷ []) (pairChecks r xs ys)
+  before-8 : Given coherentNumbers (pairChecks r xs ys)
   unfolding pairChecks
   before-8 =
       rw (coherent-is r .1 h)
       (given-then (given-check (pairsCause (r .setting .k) (length xs) (length ys)) 9 0)
       (given-then (given-check (recordFullCause (r .sum .total) (length xs / r .setting .k)) 13 0) (coefficients-gives (r .setting .p) xs ys)))
 
-  pub coherent-gives : Given (9 ∷ 13 ∷ 8 ∷ []) (feedChecks r xs ys)
+  pub coherent-gives : Given coherentNumbers (feedChecks r xs ys)
   coherent-gives = record { each = go (pairChecks r xs ys) refl }
     where
-      go : (v : Verdict) → pairChecks r xs ys ≡ v → (number place : ℕ) → feedChecks r xs ys ≡ refused number place → isIn number (9 ∷ 13 ∷ 8 ∷ []) ≡ true
+      go : (v : Verdict) → pairChecks r xs ys ≡ v → (number place : ℕ) → feedChecks r xs ys ≡ refused number place → isIn number coherentNumbers ≡ true
       go (answered u) e number place refusal = absurd (never number place tt (sym refusal ∙ feed-fine r xs ys e))
       go (refused n i) e number place refusal = before-8 .each number place (e ∙ sym (feed-refused r xs ys n i e) ∙ refusal)
 

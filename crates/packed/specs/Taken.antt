@@ -1,4 +1,4 @@
--- What packing takes of the coefficients that it is given: today the coefficients themselves. All promises that pack speak of it.
+-- What packing takes of the coefficients that it is given: the coefficients themselves. All promises that pack speak of it.
 --     taken p xs                      what packing takes of a list; takenOne p x, of one coefficient
 --     taken-length, taken-at, taken-join
 --                                     it has the list's length; it is taken one by one; of joined lists from each

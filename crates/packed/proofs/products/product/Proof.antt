@@ -1,7 +1,7 @@
 -- `product` meets its promise. Assumes nothing.
 use Prim.Native.Nat.{ℕ, _+_, _-_, _<_}
 use mathlib.Core.Path.{_≡_, refl, sym, ap, _∙_}
-use mathlib.Core.Bool.{true, true≢false}
+use mathlib.Core.Bool.{true≢false}
 use mathlib.Core.List.{List}
 use native.Mathlib.Omega.{arith}
 use lib.ListN.{length}

@@ -1,0 +1,171 @@
+-- The limits of document 01 and of request T-07, each on both sides, through the checks of the calls: what the definitions give, beside what the documents
+-- say. The prover computes the first and compares, so that a limit which is changed in a definition and in the code alike is seen here.
+--     passes, given            nothing is refused; this number, with place 0
+--     held                     a record of p=3, k=2, t=5, n=2; feeding, closing, the checks of a feed of one pair to it, and of closing it
+--     bad                      a list whose first coefficient is not below 3
+--     header                   the header of a job with p=2, k=1, t=1, n=1 and this length
+--     edges, edges-agree       the table, and that its two sides are the same
+--     lane                     the record that make makes of p=3, k=2, t=4, n=1
+--     laneEdges, lane-agree    the table of the lane: 13 and 11 by that record, which made-held says is not 12
+-- Where a list of thousands is to pass a check, its first coefficient is p: that 8 is given with place 0 shows that the check before it was passed.
+use Prim.Native.Nat.{ℕ, _+_, _-_, _*_}
+use mathlib.Core.Path.{_≡_, refl}
+use mathlib.Core.Bool.{false}
+use mathlib.Core.List.{List, [], _∷_, _++_}
+use lib.ListN.{length, replicate}
+use lib.Ieee.{inUnsigned, whole, ofInt, toUnsigned}
+use Rattle.polynomials.specs.Indices.{first}
+use Rattle.layout.specs.Numbers.{bigEndian}
+use Rattle.doubles.specs.Whole.{double}
+use Rattle.settings.specs.Answers.{Verdict}
+use Rattle.settings.specs.Settings.{settingChecks, settingOf, places}
+use Rattle.words.specs.Places.{wordChecks, placesChecks}
+use Rattle.packed.specs.Taken.{taken}
+use Rattle.packed.specs.Overflow.{feedOverflow}
+use Rattle.packed.specs.Products.{factorChecks, productChecks}
+use Rattle.packed.specs.Running.{sumCause, recordCause, pairChecks, feedChecks, closeChecks, freshSum, recordOf}
+use Rattle.tables.specs.Tables.{tableChecks, buildChecks}
+use Rattle.lane.specs.Lanes.{makeChecks, laneOf, heldCause, laneSumChecks, reduceChecks}
+use Rattle.lane.specs.Answering.{made-held}
+use Rattle.jobs.specs.Jobs.{headerChecks}
+use Rattle.labels.specs.Labels.{writeChecks, readChecks}
+use Rattle.examples.specs.Compared.{Row, Agree, checking}
+use Rattle.settings.specs.declared.setting.Setting.{Setting}
+use Rattle.packed.specs.declared.running.Record.{Record}
+use Rattle.lane.specs.declared.Lane.{Lane}
+
+passes : List ℕ
+passes = 0 ∷ 0 ∷ []
+
+given : ℕ → List ℕ
+given number = number ∷ 0 ∷ []
+
+-- p = 3, k = 2, t = 5, n = 2
+held : ℕ → ℕ → List ℕ → Record
+held total word residues = recordOf (settingOf 3 2 5 2) (record { total = total; word = word; residues = residues })
+
+zeros : List ℕ
+zeros = replicate 15 0
+
+feeding : ℕ → Verdict
+feeding total = feedChecks (held total 0 zeros) (1 ∷ 2 ∷ []) (2 ∷ 2 ∷ [])
+
+closing : ℕ → ℕ → List ℕ → Verdict
+closing total word residues = closeChecks (held total word residues) 3
+
+-- p = 3, and the first coefficient is 3
+bad : ℕ → List ℕ
+bad len = 3 ∷ replicate (len - 1) 0
+
+-- p = 2, k = 1, t = 1, n = 1, and a length
+header : ℕ → List ℕ
+header len = bigEndian 4 len ++ (1 ∷ 0 ∷ 0 ∷ 0 ∷ 2 ∷ 1 ∷ 1 ∷ 0 ∷ 0 ∷ 0 ∷ 1 ∷ [])
+
+pub edges : List Row
+edges =
+    -- 1: p from 2 to 65,536
+    checking (settingChecks (settingOf 1 1 1 1)) (given 1)
+    ∷ checking (settingChecks (settingOf 2 1 1 1)) passes
+    ∷ checking (settingChecks (settingOf 65536 1 63 1)) passes
+    ∷ checking (settingChecks (settingOf 65537 1 63 1)) (given 1)
+    -- 2: k from 1 to 8
+    ∷ checking (settingChecks (settingOf 2 0 1 1)) (given 2)
+    ∷ checking (settingChecks (settingOf 2 8 4 1)) passes
+    ∷ checking (settingChecks (settingOf 2 9 4 1)) (given 2)
+    -- 3: n from 1 to 1,048,576
+    ∷ checking (settingChecks (settingOf 2 1 63 0)) (given 3)
+    ∷ checking (settingChecks (settingOf 2 1 63 1048576)) passes
+    ∷ checking (settingChecks (settingOf 2 1 63 1048577)) (given 3)
+    -- 4: t from 1 to 63
+    ∷ checking (settingChecks (settingOf 2 1 0 1)) (given 4)
+    ∷ checking (settingChecks (settingOf 2 1 63 1)) passes
+    ∷ checking (settingChecks (settingOf 2 1 64 1)) (given 4)
+    -- 5: at p = 3, k = 2, n = 1 a place needs more than 8
+    ∷ checking (settingChecks (settingOf 3 2 3 1)) (given 5)
+    ∷ checking (settingChecks (settingOf 3 2 4 1)) passes
+    -- 6: 63 bits, and the fewest above, since 64 is no odd number's multiple but of 1: 65
+    ∷ checking (settingChecks (settingOf 2 2 21 1)) passes
+    ∷ checking (settingChecks (settingOf 2 3 13 1)) (given 6)
+    -- 9 of product: 4,096 coefficients, in either list
+    ∷ checking (productChecks (settingOf 3 2 4 1) (bad 4096) (bad 4096) 0) (8 ∷ 0 ∷ [])
+    ∷ checking (productChecks (settingOf 3 2 4 1) (bad 4097) [] 0) (given 9)
+    ∷ checking (productChecks (settingOf 3 2 4 1) [] (bad 4097) 0) (given 9)
+    -- 10: 2k-1 places; 8 + p^2 bytes
+    ∷ checking (placesChecks (settingOf 3 2 4 1) 0 2) (given 10)
+    ∷ checking (placesChecks (settingOf 3 2 4 1) 0 3) passes
+    ∷ checking (buildChecks (settingOf 3 2 4 1) 16) (given 10)
+    ∷ checking (buildChecks (settingOf 3 2 4 1) 17) passes
+    -- 11: words of 12 bits
+    ∷ checking (wordChecks (settingOf 3 2 4 1) 4095) passes
+    ∷ checking (wordChecks (settingOf 3 2 4 1) 4096) (given 11)
+    -- 12: a total of 1,000,000; with one open pair 4 and 8 in the lowest two fields; residues below 3 in 3 places; 15 of them
+    ∷ checking (closing 1000000 0 zeros) passes
+    ∷ checking (closing 1000001 0 zeros) (given 12)
+    ∷ checking (closing 1 (4 + 8 * 32) zeros) passes
+    ∷ checking (closing 1 5 zeros) (given 12)
+    ∷ checking (closing 1 (9 * 32) zeros) (given 12)
+    ∷ checking (closing 0 0 (0 ∷ 0 ∷ 2 ∷ replicate 12 0)) passes
+    ∷ checking (closing 0 0 (0 ∷ 0 ∷ 3 ∷ replicate 12 0)) (given 12)
+    ∷ checking (closing 0 0 (0 ∷ 0 ∷ 0 ∷ 1 ∷ replicate 11 0)) (given 12)
+    ∷ record { gives = length (freshSum .residues) ∷ places (settingOf 2 8 4 1) ∷ []; prints = 15 ∷ 15 ∷ [] }
+    -- 13: 1,000,000 pairs, in a record and in a job
+    ∷ checking (feeding 999999) passes
+    ∷ checking (feeding 1000000) (given 13)
+    ∷ checking (headerChecks (header (11 + 4 * 1000000))) passes
+    ∷ checking (headerChecks (header (11 + 4 * 1000001))) (given 13)
+    -- 14: p up to 127
+    ∷ checking (tableChecks (settingOf 127 1 14 1)) passes
+    ∷ checking (tableChecks (settingOf 128 1 14 1)) (given 14)
+    -- 16: fewer than 53 bits
+    ∷ checking (makeChecks (settingOf 2 1 52 1)) passes
+    ∷ checking (makeChecks (settingOf 2 1 53 1)) (given 16)
+    -- 17: 15 bytes, a length of 11, a multiple of 4k after it
+    ∷ checking (headerChecks (header 11)) passes
+    ∷ checking (headerChecks (header 10)) (given 17)
+    ∷ checking (headerChecks (header 12)) (given 17)
+    -- 19: levels up to 8; the highest has 512 check words
+    ∷ checking (writeChecks 8 (928 ∷ []) 513) passes
+    ∷ checking (writeChecks 8 (928 ∷ []) 512) (given 10)
+    ∷ checking (writeChecks 9 (928 ∷ []) 1025) (given 19)
+    ∷ checking (readChecks 9 []) (given 19)
+    -- 8 of a label: words below 929
+    ∷ checking (writeChecks 0 (0 ∷ 929 ∷ []) 4) (8 ∷ 1 ∷ [])
+    -- 20: one data word; beside two check words a third word
+    ∷ checking (writeChecks 0 [] 2) (given 20)
+    ∷ checking (readChecks 0 (0 ∷ 0 ∷ [])) (given 20)
+    ∷ checking (readChecks 0 (0 ∷ 0 ∷ 0 ∷ [])) passes
+    -- 21: 928 words in all
+    ∷ checking (writeChecks 0 (929 ∷ replicate 925 0) 928) (8 ∷ 0 ∷ [])
+    ∷ checking (writeChecks 0 (929 ∷ replicate 926 0) 929) (given 21)
+    ∷ checking (readChecks 0 (929 ∷ replicate 927 0)) (8 ∷ 0 ∷ [])
+    ∷ checking (readChecks 0 (929 ∷ replicate 928 0)) (given 21)
+    ∷ []
+
+pub edges-agree : Agree edges
+unfolding edges passes given held zeros feeding closing bad header first settingChecks wordChecks placesChecks taken sumCause recordCause feedOverflow factorChecks productChecks pairChecks feedChecks closeChecks tableChecks buildChecks makeChecks headerChecks writeChecks readChecks
+edges-agree = refl
+
+-- ---- the double lane
+
+abbrev small : Setting
+small = settingOf 3 2 4 1
+
+abbrev lane : Lane
+lane = laneOf small
+
+not-12 : heldCause lane ≡ false
+unfolding makeChecks settingChecks
+not-12 = made-held small lane refl
+
+-- 13: n pairs, which is one; 11: words of 12 bits
+pub laneEdges : List Row
+laneEdges =
+    checking (laneSumChecks lane (1 ∷ 2 ∷ []) (2 ∷ 2 ∷ [])) passes
+    ∷ checking (laneSumChecks lane (1 ∷ 2 ∷ 0 ∷ 0 ∷ []) (2 ∷ 2 ∷ 0 ∷ 0 ∷ [])) (given 13)
+    ∷ checking (reduceChecks lane (double 4095)) passes
+    ∷ checking (reduceChecks lane (double 4096)) (given 11)
+    ∷ []
+
+pub lane-agree : Agree laneEdges
+unfolding laneEdges passes given first laneSumChecks reduceChecks inUnsigned whole ofInt toUnsigned
+lane-agree = rw not-12
