@@ -2,12 +2,12 @@
 -- say. The prover computes the first and compares, so that a limit which is changed in a definition and in the code alike is seen here.
 --     passes, given            nothing is refused; this number, with place 0
 --     held                     a record of p=3, k=2, t=5, n=2; feeding, closing, the checks of a feed of one pair to it, and of closing it
---     bad                      a list whose first coefficient is not below 3
 --     header                   the header of a job with p=2, k=1, t=1, n=1 and this length
 --     edges, edges-agree       the table, and that its two sides are the same
+--     long                     a list of so many, whose first coefficient is p
+--     longEdges, long-agree    the same of limits on long lists
 --     lane                     the record that make makes of p=3, k=2, t=4, n=1
 --     laneEdges, lane-agree    the table of the lane: 13 and 11 by that record, which made-held says is not 12
--- Where a list of thousands is to pass a check, its first coefficient is p: that 8 is given with place 0 shows that the check before it was passed.
 use Prim.Native.Nat.{ℕ, _+_, _-_, _*_}
 use mathlib.Core.Path.{_≡_, refl}
 use mathlib.Core.Bool.{false}
@@ -53,10 +53,6 @@ feeding total = feedChecks (held total 0 zeros) (1 ∷ 2 ∷ []) (2 ∷ 2 ∷ []
 closing : ℕ → ℕ → List ℕ → Verdict
 closing total word residues = closeChecks (held total word residues) 3
 
--- p = 3, and the first coefficient is 3
-bad : ℕ → List ℕ
-bad len = 3 ∷ replicate (len - 1) 0
-
 -- p = 2, k = 1, t = 1, n = 1, and a length
 header : ℕ → List ℕ
 header len = bigEndian 4 len ++ (1 ∷ 0 ∷ 0 ∷ 0 ∷ 2 ∷ 1 ∷ 1 ∷ 0 ∷ 0 ∷ 0 ∷ 1 ∷ [])
@@ -86,10 +82,6 @@ edges =
     -- 6: 63 bits, and the fewest above, since 64 is no odd number's multiple but of 1: 65
     ∷ checking (settingChecks (settingOf 2 2 21 1)) passes
     ∷ checking (settingChecks (settingOf 2 3 13 1)) (given 6)
-    -- 9 of product: 4,096 coefficients, in either list
-    ∷ checking (productChecks (settingOf 3 2 4 1) (bad 4096) (bad 4096) 0) (8 ∷ 0 ∷ [])
-    ∷ checking (productChecks (settingOf 3 2 4 1) (bad 4097) [] 0) (given 9)
-    ∷ checking (productChecks (settingOf 3 2 4 1) [] (bad 4097) 0) (given 9)
     -- 10: 2k-1 places; 8 + p^2 bytes
     ∷ checking (placesChecks (settingOf 3 2 4 1) 0 2) (given 10)
     ∷ checking (placesChecks (settingOf 3 2 4 1) 0 3) passes
@@ -134,16 +126,34 @@ edges =
     ∷ checking (writeChecks 0 [] 2) (given 20)
     ∷ checking (readChecks 0 (0 ∷ 0 ∷ [])) (given 20)
     ∷ checking (readChecks 0 (0 ∷ 0 ∷ 0 ∷ [])) passes
-    -- 21: 928 words in all
-    ∷ checking (writeChecks 0 (929 ∷ replicate 925 0) 928) (8 ∷ 0 ∷ [])
-    ∷ checking (writeChecks 0 (929 ∷ replicate 926 0) 929) (given 21)
-    ∷ checking (readChecks 0 (929 ∷ replicate 927 0)) (8 ∷ 0 ∷ [])
-    ∷ checking (readChecks 0 (929 ∷ replicate 928 0)) (given 21)
     ∷ []
 
 pub edges-agree : Agree edges
-unfolding edges passes given held zeros feeding closing bad header first settingChecks wordChecks placesChecks taken sumCause recordCause feedOverflow factorChecks productChecks pairChecks feedChecks closeChecks tableChecks buildChecks makeChecks headerChecks writeChecks readChecks
+unfolding edges passes given held zeros feeding closing header first settingChecks wordChecks placesChecks taken sumCause recordCause feedOverflow pairChecks feedChecks closeChecks tableChecks buildChecks makeChecks headerChecks writeChecks readChecks
 edges-agree = refl
+
+-- ---- long lists
+
+-- the first coefficient is p: that 8 is given with place 0 shows that the check before it was passed
+long : ℕ → ℕ → List ℕ
+long p len = p ∷ replicate (len - 1) 0
+
+pub longEdges : List Row
+longEdges =
+    -- 9 of product: 4,096 coefficients, in either list
+    checking (productChecks (settingOf 3 2 4 1) (long 3 4096) (long 3 4096) 0) (8 ∷ 0 ∷ [])
+    ∷ checking (productChecks (settingOf 3 2 4 1) (long 3 4097) [] 0) (given 9)
+    ∷ checking (productChecks (settingOf 3 2 4 1) [] (long 3 4097) 0) (given 9)
+    -- 21: 928 words in all
+    ∷ checking (writeChecks 0 (long 929 926) 928) (8 ∷ 0 ∷ [])
+    ∷ checking (writeChecks 0 (long 929 927) 929) (given 21)
+    ∷ checking (readChecks 0 (long 929 928)) (8 ∷ 0 ∷ [])
+    ∷ checking (readChecks 0 (long 929 929)) (given 21)
+    ∷ []
+
+pub long-agree : Agree longEdges
+unfolding longEdges given long first settingChecks factorChecks productChecks writeChecks readChecks
+long-agree = refl
 
 -- ---- the double lane
 
