@@ -1,7 +1,9 @@
 -- The limits of document 01 and of request T-07, each on both sides, through the checks of the calls: what the definitions give, beside what the documents
 -- say. The prover computes the first and compares, so that a limit which is changed in a definition and in the code alike is seen here.
 --     passes, given            nothing is refused; this number, with place 0
---     held                     a record of p=3, k=2, t=5, n=2; feeding, closing, the checks of a feed of one pair to it, and of closing it
+--     held                     a record of p=3, k=2, t=5, n=2; feeding, closing, the checks of a feed of one pair to it, and of closing it; shaped, of
+--                              two lists of these lengths
+--     tableBytes               the table of p=3, t=4 with another last byte; 0 is the table's own
 --     header                   the header of a job with p=2, k=1, t=1, n=1 and this length
 --     edges, edges-agree       the table, and that its two sides are the same
 --     long                     a list of so many, whose first coefficient is p
@@ -12,7 +14,7 @@ use Prim.Native.Nat.{ℕ, _+_, _-_, _*_}
 use mathlib.Core.Path.{_≡_, refl}
 use mathlib.Core.Bool.{false}
 use mathlib.Core.List.{List, [], _∷_, _++_}
-use lib.ListN.{length, replicate}
+use lib.ListN.{length, replicate, take, drop}
 use lib.Ieee.{inUnsigned, whole, ofInt, toUnsigned}
 use Rattle.polynomials.specs.Indices.{first}
 use Rattle.layout.specs.Numbers.{bigEndian}
@@ -21,15 +23,16 @@ use Rattle.settings.specs.Answers.{Verdict}
 use Rattle.settings.specs.Settings.{settingChecks, settingOf, places}
 use Rattle.words.specs.Places.{wordChecks, placesChecks}
 use Rattle.packed.specs.Taken.{taken}
-use Rattle.packed.specs.Overflow.{feedOverflow}
+use Rattle.packed.specs.Packing.{packAnswer}
+use Rattle.packed.specs.Overflow.{overflowCause, feedOverflow}
 use Rattle.packed.specs.Products.{factorChecks, productChecks}
 use Rattle.packed.specs.Running.{sumCause, recordCause, pairChecks, feedChecks, closeChecks, freshSum, recordOf}
-use Rattle.tables.specs.Tables.{tableChecks, buildChecks}
+use Rattle.tables.specs.Tables.{table, tableChecks, buildChecks, byTableChecks}
 use Rattle.lane.specs.Lanes.{makeChecks, laneOf, heldCause, laneSumChecks, reduceChecks}
 use Rattle.lane.specs.Answering.{made-held}
 use Rattle.jobs.specs.Jobs.{headerChecks}
 use Rattle.labels.specs.Labels.{writeChecks, readChecks}
-use Rattle.examples.specs.Compared.{Row, Agree, checking}
+use Rattle.examples.specs.Compared.{Row, Agree, answering, checking}
 use Rattle.settings.specs.declared.setting.Setting.{Setting}
 use Rattle.packed.specs.declared.running.Record.{Record}
 use Rattle.lane.specs.declared.Lane.{Lane}
@@ -50,8 +53,14 @@ zeros = replicate 15 0
 feeding : ℕ → Verdict
 feeding total = feedChecks (held total 0 zeros) (1 ∷ 2 ∷ []) (2 ∷ 2 ∷ [])
 
+shaped : ℕ → ℕ → Verdict
+shaped m n = feedChecks (held 0 0 zeros) (replicate m 0) (replicate n 0)
+
 closing : ℕ → ℕ → List ℕ → Verdict
 closing total word residues = closeChecks (held total word residues) 3
+
+tableBytes : ℕ → List ℕ
+tableBytes last = 0 ∷ 0 ∷ 0 ∷ 13 ∷ 1 ∷ 0 ∷ 3 ∷ 4 ∷ 0 ∷ 1 ∷ 2 ∷ 2 ∷ 0 ∷ 1 ∷ 1 ∷ 2 ∷ last ∷ []
 
 -- p = 2, k = 1, t = 1, n = 1, and a length
 header : ℕ → List ℕ
@@ -82,9 +91,23 @@ edges =
     -- 6: 63 bits, and the fewest above, since 64 is no odd number's multiple but of 1: 65
     ∷ checking (settingChecks (settingOf 2 2 21 1)) passes
     ∷ checking (settingChecks (settingOf 2 3 13 1)) (given 6)
-    -- 10: 2k-1 places; 8 + p^2 bytes
+    -- 9: k coefficients to pack; to feed, lists of one length, a multiple of k
+    ∷ answering (packAnswer (settingOf 3 2 4 1) (1 ∷ [])) (given 9)
+    ∷ answering (packAnswer (settingOf 3 2 4 1) (1 ∷ 2 ∷ [])) (0 ∷ 0 ∷ 33 ∷ [])
+    ∷ answering (packAnswer (settingOf 3 2 4 1) (1 ∷ 2 ∷ 0 ∷ [])) (given 9)
+    ∷ checking (shaped 0 0) passes
+    ∷ checking (shaped 1 1) (given 9)
+    ∷ checking (shaped 2 2) passes
+    ∷ checking (shaped 2 4) (given 9)
+    ∷ checking (shaped 4 2) (given 9)
+    -- 10: la + lb - 1 coefficients, and none with an empty list; 2k-1 places; 8 + p^2 bytes
+    ∷ checking (productChecks (settingOf 3 2 4 1) (1 ∷ 2 ∷ []) (2 ∷ 2 ∷ []) 2) (given 10)
+    ∷ checking (productChecks (settingOf 3 2 4 1) (1 ∷ 2 ∷ []) (2 ∷ 2 ∷ []) 3) passes
+    ∷ checking (productChecks (settingOf 3 2 4 1) (1 ∷ 2 ∷ []) [] 0) passes
     ∷ checking (placesChecks (settingOf 3 2 4 1) 0 2) (given 10)
     ∷ checking (placesChecks (settingOf 3 2 4 1) 0 3) passes
+    ∷ checking (closeChecks (held 0 0 zeros) 2) (given 10)
+    ∷ checking (closeChecks (held 0 0 zeros) 3) passes
     ∷ checking (buildChecks (settingOf 3 2 4 1) 16) (given 10)
     ∷ checking (buildChecks (settingOf 3 2 4 1) 17) passes
     -- 11: words of 12 bits
@@ -108,13 +131,20 @@ edges =
     -- 14: p up to 127
     ∷ checking (tableChecks (settingOf 127 1 14 1)) passes
     ∷ checking (tableChecks (settingOf 128 1 14 1)) (given 14)
+    -- 15: all 17 bytes, and none after them
+    ∷ checking (byTableChecks (settingOf 3 2 4 1) (tableBytes 0) [] 0) passes
+    ∷ checking (byTableChecks (settingOf 3 2 4 1) (tableBytes 0 ++ (9 ∷ [])) [] 0) passes
+    ∷ checking (byTableChecks (settingOf 3 2 4 1) (tableBytes 1) [] 0) (15 ∷ 16 ∷ [])
+    ∷ checking (byTableChecks (settingOf 3 2 4 1) (take 16 (tableBytes 0)) [] 0) (15 ∷ 16 ∷ [])
     -- 16: fewer than 53 bits
     ∷ checking (makeChecks (settingOf 2 1 52 1)) passes
     ∷ checking (makeChecks (settingOf 2 1 53 1)) (given 16)
-    -- 17: 15 bytes, a length of 11, a multiple of 4k after it
+    -- 17: a length of 11, a multiple of 4k after it, 15 bytes, version 1
     ∷ checking (headerChecks (header 11)) passes
     ∷ checking (headerChecks (header 10)) (given 17)
     ∷ checking (headerChecks (header 12)) (given 17)
+    ∷ checking (headerChecks (take 14 (header 11))) (given 17)
+    ∷ checking (headerChecks (take 4 (header 11) ++ (2 ∷ drop 5 (header 11)))) (given 17)
     -- 19: levels up to 8; the highest has 512 check words
     ∷ checking (writeChecks 8 (928 ∷ []) 513) passes
     ∷ checking (writeChecks 8 (928 ∷ []) 512) (given 10)
@@ -129,7 +159,7 @@ edges =
     ∷ []
 
 pub edges-agree : Agree edges
-unfolding edges passes given held zeros feeding closing header first settingChecks wordChecks placesChecks taken sumCause recordCause feedOverflow pairChecks feedChecks closeChecks tableChecks buildChecks makeChecks headerChecks writeChecks readChecks
+unfolding edges passes given held zeros feeding shaped closing tableBytes header first settingChecks wordChecks placesChecks taken packAnswer overflowCause factorChecks productChecks sumCause recordCause feedOverflow pairChecks feedChecks closeChecks table tableChecks buildChecks byTableChecks makeChecks headerChecks writeChecks readChecks
 edges-agree = refl
 
 -- ---- long lists

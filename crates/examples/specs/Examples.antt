@@ -14,7 +14,7 @@ use mathlib.Core.List.{List, [], _∷_}
 use lib.ListN.{length, replicate, take}
 use Rattle.polynomials.specs.Indices.{upto, first, roundedUp}
 use Rattle.polynomials.specs.Places.{fields, shifted}
-use Rattle.settings.specs.Answers.{Answer, answered, Verdict, _andThen_, numbers, wrote, leftBy}
+use Rattle.settings.specs.Answers.{answered, Verdict, _andThen_, numbers, wrote, leftBy}
 use Rattle.settings.specs.Settings.{base, places, settingChecks, settingOf}
 use Rattle.settings.specs.Coefficients.{firstBad, coefficientsCheck}
 use Rattle.settings.specs.Choices.{escapes, smallestWidth, noneCause, chooseAnswer}
@@ -24,7 +24,7 @@ use Rattle.packed.specs.Packing.{packAnswer}
 use Rattle.tables.specs.Tables.{table, tableChecks, buildChecks}
 use Rattle.packed.specs.Overflow.{feedOverflow}
 use Rattle.packed.specs.Running.{sumCause, recordCause, closingAt, afterPairs, fedPairs, pairChecks, feedChecks, closeChecks, keptBy, freshSum, recordOf, Feeds}
-use Rattle.examples.specs.Compared.{Row, Agree, checking}
+use Rattle.examples.specs.Compared.{Row, Agree, answering, checking}
 use Rattle.settings.specs.declared.setting.Setting.{Setting}
 use Rattle.packed.specs.declared.running.Record.{Record}
 use Rattle.packed.specs.declared.running.Counted.{Counted}
@@ -38,9 +38,6 @@ none = 7 ∷ 0 ∷ []
 
 written : List ℕ → List ℕ
 written vs = 0 ∷ 0 ∷ length vs ∷ vs
-
-answering : Answer ℕ → List ℕ → Row
-answering a prints = record { gives = numbers (λ v. v ∷ []) a; prints = prints }
 
 choosing : ℕ → ℕ → ℕ → List ℕ → Row
 choosing p k n prints = answering (chooseAnswer p k n) prints
@@ -120,7 +117,7 @@ starred =
     ∷ []
 
 pub starred-agree : Agree starred
-unfolding starred value none written answering choosing small packing reducing writing unpacking shifting building chooseAnswer noneCause smallestWidth escapes first settingChecks wordChecks placesChecks packAnswer reduceAnswer taken table tableChecks buildChecks fedTimes wordAfter residuesAfter closingAfter sumCause recordCause afterPairs feedOverflow pairChecks feedChecks closeChecks
+unfolding starred value none written choosing small packing reducing writing unpacking shifting building chooseAnswer noneCause smallestWidth escapes first settingChecks wordChecks placesChecks packAnswer reduceAnswer taken table tableChecks buildChecks fedTimes wordAfter residuesAfter closingAfter sumCause recordCause afterPairs feedOverflow pairChecks feedChecks closeChecks
 starred-agree = refl
 
 -- ---- what crates ask of each other

@@ -3,12 +3,10 @@
 --     tiny                       p=2, k=1, t=1, n=1, the smallest setting that is accepted
 --     refusalRows, refusals-agree
 --                                the table, and that its two sides are the same
-use Prim.Native.Nat.{ℕ}
 use mathlib.Core.Path.{refl}
 use mathlib.Core.List.{List, [], _∷_}
 use lib.ListN.{replicate}
 use Rattle.polynomials.specs.Indices.{first}
-use Rattle.settings.specs.Answers.{Answer, numbers}
 use Rattle.settings.specs.Settings.{settingChecks, settingOf}
 use Rattle.settings.specs.Choices.{escapes, smallestWidth, noneCause, chooseAnswer}
 use Rattle.words.specs.Places.{wordChecks, wordsChecks, placesChecks}
@@ -21,15 +19,11 @@ use Rattle.tables.specs.Tables.{table, tableChecks, byTableChecks}
 use Rattle.lane.specs.Lanes.{makeChecks}
 use Rattle.jobs.specs.Jobs.{headerChecks, jobChecks}
 use Rattle.labels.specs.Labels.{writeChecks}
-use Rattle.examples.specs.Compared.{Row, Agree, checking}
+use Rattle.examples.specs.Compared.{Row, Agree, answering, checking}
 use Rattle.settings.specs.declared.setting.Setting.{Setting}
 
 tiny : Setting
 tiny = settingOf 2 1 1 1
-
--- of a call that answers a number
-answering : Answer ℕ → List ℕ → Row
-answering a prints = record { gives = numbers (λ v. v ∷ []) a; prints = prints }
 
 pub refusalRows : List Row
 refusalRows =
@@ -62,5 +56,5 @@ refusalRows =
     ∷ []
 
 pub refusals-agree : Agree refusalRows
-unfolding refusalRows tiny answering first settingChecks escapes smallestWidth noneCause chooseAnswer wordChecks wordsChecks placesChecks taken packAnswer feedOverflow factorChecks productChecks sumCause recordCause pairChecks feedChecks table tableChecks byTableChecks makeChecks headerChecks jobChecks writeChecks
+unfolding refusalRows tiny first settingChecks escapes smallestWidth noneCause chooseAnswer wordChecks wordsChecks placesChecks taken packAnswer feedOverflow factorChecks productChecks sumCause recordCause pairChecks feedChecks table tableChecks byTableChecks makeChecks headerChecks jobChecks writeChecks
 refusals-agree = refl
