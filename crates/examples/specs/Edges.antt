@@ -1,6 +1,8 @@
 -- The limits of document 01 and of request T-07, each on both sides, through the checks of the calls: what the definitions give, beside what the documents
--- say. The prover computes the first and compares, so that a limit which is changed in a definition and in the code alike is seen here.
+-- say, counted by hand from their words. The prover computes the first and compares, so that a limit which is changed in a definition and in the code
+-- alike is seen here.
 --     passes, given            nothing is refused; this number, with place 0
+--     small                    p=3, k=2, t=4, n=1: words of 12 bits
 --     held                     a record of p=3, k=2, t=5, n=2; feeding, closing, the checks of a feed of one pair to it, and of closing it; shaped, of
 --                              two lists of these lengths
 --     tableBytes               the table of p=3, t=4 with another last byte; 0 is the table's own
@@ -8,20 +10,21 @@
 --     edges, edges-agree       the table, and that its two sides are the same
 --     long                     a list of so many, whose first coefficient is p
 --     longEdges, long-agree    the same of limits on long lists
---     lane                     the record that make makes of p=3, k=2, t=4, n=1
+--     lane                     the record that make makes of that setting
 --     laneEdges, lane-agree    the table of the lane: 13 and 11 by that record, which made-held says is not 12
 use Prim.Native.Nat.{ℕ, _+_, _-_, _*_}
 use mathlib.Core.Path.{_≡_, refl}
 use mathlib.Core.Bool.{false}
-use mathlib.Core.List.{List, [], _∷_, _++_}
+use mathlib.Core.List.{List, [], _∷_, _++_, map}
 use lib.ListN.{length, replicate, take, drop}
 use lib.Ieee.{inUnsigned, whole, ofInt, toUnsigned}
-use Rattle.polynomials.specs.Indices.{first}
+use Rattle.polynomials.specs.Indices.{first, roundedUp}
 use Rattle.layout.specs.Numbers.{bigEndian}
 use Rattle.doubles.specs.Whole.{double}
 use Rattle.settings.specs.Answers.{Verdict}
 use Rattle.settings.specs.Settings.{settingChecks, settingOf, places}
-use Rattle.words.specs.Places.{wordChecks, placesChecks}
+use Rattle.settings.specs.Coefficients.{firstBad, coefficientsCheck}
+use Rattle.words.specs.Places.{wordChecks, wordsChecks, placesChecks}
 use Rattle.packed.specs.Taken.{taken}
 use Rattle.packed.specs.Packing.{packAnswer}
 use Rattle.packed.specs.Overflow.{overflowCause, feedOverflow}
@@ -30,7 +33,7 @@ use Rattle.packed.specs.Running.{sumCause, recordCause, pairChecks, feedChecks,
 use Rattle.tables.specs.Tables.{table, tableChecks, buildChecks, byTableChecks}
 use Rattle.lane.specs.Lanes.{makeChecks, laneOf, heldCause, laneSumChecks, reduceChecks}
 use Rattle.lane.specs.Answering.{made-held}
-use Rattle.jobs.specs.Jobs.{headerChecks}
+use Rattle.jobs.specs.Jobs.{headerChecks, jobChecks}
 use Rattle.labels.specs.Labels.{writeChecks, readChecks}
 use Rattle.examples.specs.Compared.{Row, Agree, answering, checking}
 use Rattle.settings.specs.declared.setting.Setting.{Setting}
@@ -42,6 +45,10 @@ passes = 0 ∷ 0 ∷ []
 
 given : ℕ → List ℕ
 given number = number ∷ 0 ∷ []
+
+-- p = 3, k = 2, t = 4, n = 1
+abbrev small : Setting
+small = settingOf 3 2 4 1
 
 -- p = 3, k = 2, t = 5, n = 2
 held : ℕ → ℕ → List ℕ → Record
@@ -85,44 +92,65 @@ edges =
     ∷ checking (settingChecks (settingOf 2 1 0 1)) (given 4)
     ∷ checking (settingChecks (settingOf 2 1 63 1)) passes
     ∷ checking (settingChecks (settingOf 2 1 64 1)) (given 4)
-    -- 5: at p = 3, k = 2, n = 1 a place needs more than 8
+    -- 5: at p = 3, k = 2 a place needs more than 8 for n = 1, and more than 16 for n = 2
     ∷ checking (settingChecks (settingOf 3 2 3 1)) (given 5)
-    ∷ checking (settingChecks (settingOf 3 2 4 1)) passes
+    ∷ checking (settingChecks small) passes
+    ∷ checking (settingChecks (settingOf 3 2 4 2)) (given 5)
+    ∷ checking (settingChecks (settingOf 3 2 5 2)) passes
     -- 6: 63 bits, and the fewest above, since 64 is no odd number's multiple but of 1: 65
     ∷ checking (settingChecks (settingOf 2 2 21 1)) passes
     ∷ checking (settingChecks (settingOf 2 3 13 1)) (given 6)
+    -- 8: below 3, in two lists; the first is searched first
+    ∷ checking (coefficientsCheck 3 (2 ∷ 0 ∷ []) (2 ∷ 2 ∷ [])) passes
+    ∷ checking (coefficientsCheck 3 (2 ∷ 0 ∷ []) (2 ∷ 3 ∷ [])) (8 ∷ 3 ∷ [])
+    ∷ checking (coefficientsCheck 3 (2 ∷ 3 ∷ []) (4 ∷ 3 ∷ [])) (8 ∷ 1 ∷ [])
+    ∷ record { gives = firstBad 3 (2 ∷ 0 ∷ []) ∷ firstBad 3 (2 ∷ 3 ∷ 3 ∷ []) ∷ []; prints = 2 ∷ 1 ∷ [] }
+    -- and in a job, of k = 1: the second of its coefficients is not below 2
+    ∷ checking (jobChecks (header 15 ++ (0 ∷ 1 ∷ 0 ∷ 1 ∷ []))) passes
+    ∷ checking (jobChecks (header 15 ++ (0 ∷ 1 ∷ 0 ∷ 2 ∷ []))) (8 ∷ 1 ∷ [])
     -- 9: k coefficients to pack; to feed, lists of one length, a multiple of k
-    ∷ answering (packAnswer (settingOf 3 2 4 1) (1 ∷ [])) (given 9)
-    ∷ answering (packAnswer (settingOf 3 2 4 1) (1 ∷ 2 ∷ [])) (0 ∷ 0 ∷ 33 ∷ [])
-    ∷ answering (packAnswer (settingOf 3 2 4 1) (1 ∷ 2 ∷ 0 ∷ [])) (given 9)
+    ∷ answering (packAnswer small (1 ∷ [])) (given 9)
+    ∷ answering (packAnswer small (1 ∷ 2 ∷ [])) (0 ∷ 0 ∷ 33 ∷ [])
+    ∷ answering (packAnswer small (1 ∷ 2 ∷ 0 ∷ [])) (given 9)
     ∷ checking (shaped 0 0) passes
     ∷ checking (shaped 1 1) (given 9)
     ∷ checking (shaped 2 2) passes
     ∷ checking (shaped 2 4) (given 9)
     ∷ checking (shaped 4 2) (given 9)
     -- 10: la + lb - 1 coefficients, and none with an empty list; 2k-1 places; 8 + p^2 bytes
-    ∷ checking (productChecks (settingOf 3 2 4 1) (1 ∷ 2 ∷ []) (2 ∷ 2 ∷ []) 2) (given 10)
-    ∷ checking (productChecks (settingOf 3 2 4 1) (1 ∷ 2 ∷ []) (2 ∷ 2 ∷ []) 3) passes
-    ∷ checking (productChecks (settingOf 3 2 4 1) (1 ∷ 2 ∷ []) [] 0) passes
-    ∷ checking (placesChecks (settingOf 3 2 4 1) 0 2) (given 10)
-    ∷ checking (placesChecks (settingOf 3 2 4 1) 0 3) passes
+    ∷ checking (productChecks small (1 ∷ 2 ∷ []) (2 ∷ 2 ∷ []) 2) (given 10)
+    ∷ checking (productChecks small (1 ∷ 2 ∷ []) (2 ∷ 2 ∷ []) 3) passes
+    ∷ checking (productChecks small (1 ∷ 2 ∷ []) [] 0) passes
+    ∷ checking (placesChecks small 0 2) (given 10)
+    ∷ checking (placesChecks small 0 3) passes
     ∷ checking (closeChecks (held 0 0 zeros) 2) (given 10)
     ∷ checking (closeChecks (held 0 0 zeros) 3) passes
-    ∷ checking (buildChecks (settingOf 3 2 4 1) 16) (given 10)
-    ∷ checking (buildChecks (settingOf 3 2 4 1) 17) passes
+    ∷ checking (buildChecks small 16) (given 10)
+    ∷ checking (buildChecks small 17) passes
     -- 11: words of 12 bits
-    ∷ checking (wordChecks (settingOf 3 2 4 1) 4095) passes
-    ∷ checking (wordChecks (settingOf 3 2 4 1) 4096) (given 11)
-    -- 12: a total of 1,000,000; with one open pair 4 and 8 in the lowest two fields; residues below 3 in 3 places; 15 of them
+    ∷ checking (wordChecks small 4095) passes
+    ∷ checking (wordChecks small 4096) (given 11)
+    ∷ checking (wordsChecks small (4095 ∷ 0 ∷ [])) passes
+    ∷ checking (wordsChecks small (4095 ∷ 4096 ∷ 4097 ∷ [])) (11 ∷ 1 ∷ [])
+    -- also where there is no word the setting is tested
+    ∷ checking (wordsChecks small []) passes
+    ∷ checking (wordsChecks (settingOf 3 2 3 1) []) (given 5)
+    -- 12: a total of 1,000,000; with one open pair 4, 8 and 4 in the fields, and nothing above them; residues below 3 in 3 places; 15 of them
     ∷ checking (closing 1000000 0 zeros) passes
     ∷ checking (closing 1000001 0 zeros) (given 12)
-    ∷ checking (closing 1 (4 + 8 * 32) zeros) passes
+    ∷ checking (closing 1 (4 + 8 * 32 + 4 * 1024) zeros) passes
     ∷ checking (closing 1 5 zeros) (given 12)
     ∷ checking (closing 1 (9 * 32) zeros) (given 12)
+    ∷ checking (closing 1 (5 * 1024) zeros) (given 12)
+    ∷ checking (closing 1 32768 zeros) (given 12)
+    ∷ checking (closing 2 1 zeros) (given 12)
+    ∷ checking (closeChecks (recordOf (settingOf 3 2 3 1) freshSum) 3) (given 12)
     ∷ checking (closing 0 0 (0 ∷ 0 ∷ 2 ∷ replicate 12 0)) passes
     ∷ checking (closing 0 0 (0 ∷ 0 ∷ 3 ∷ replicate 12 0)) (given 12)
     ∷ checking (closing 0 0 (0 ∷ 0 ∷ 0 ∷ 1 ∷ replicate 11 0)) (given 12)
     ∷ record { gives = length (freshSum .residues) ∷ places (settingOf 2 8 4 1) ∷ []; prints = 15 ∷ 15 ∷ [] }
+    -- reductions of 0, 1, 2 and 3 pairs, for n = 2
+    ∷ record { gives = map (λ (m : ℕ). roundedUp m 2) (0 ∷ 1 ∷ 2 ∷ 3 ∷ []); prints = 0 ∷ 1 ∷ 1 ∷ 2 ∷ [] }
     -- 13: 1,000,000 pairs, in a record and in a job
     ∷ checking (feeding 999999) passes
     ∷ checking (feeding 1000000) (given 13)
@@ -132,10 +160,10 @@ edges =
     ∷ checking (tableChecks (settingOf 127 1 14 1)) passes
     ∷ checking (tableChecks (settingOf 128 1 14 1)) (given 14)
     -- 15: all 17 bytes, and none after them
-    ∷ checking (byTableChecks (settingOf 3 2 4 1) (tableBytes 0) [] 0) passes
-    ∷ checking (byTableChecks (settingOf 3 2 4 1) (tableBytes 0 ++ (9 ∷ [])) [] 0) passes
-    ∷ checking (byTableChecks (settingOf 3 2 4 1) (tableBytes 1) [] 0) (15 ∷ 16 ∷ [])
-    ∷ checking (byTableChecks (settingOf 3 2 4 1) (take 16 (tableBytes 0)) [] 0) (15 ∷ 16 ∷ [])
+    ∷ checking (byTableChecks small (tableBytes 0) [] 0) passes
+    ∷ checking (byTableChecks small (tableBytes 0 ++ (9 ∷ [])) [] 0) passes
+    ∷ checking (byTableChecks small (tableBytes 1) [] 0) (15 ∷ 16 ∷ [])
+    ∷ checking (byTableChecks small (take 16 (tableBytes 0)) [] 0) (15 ∷ 16 ∷ [])
     -- 16: fewer than 53 bits
     ∷ checking (makeChecks (settingOf 2 1 52 1)) passes
     ∷ checking (makeChecks (settingOf 2 1 53 1)) (given 16)
@@ -159,7 +187,7 @@ edges =
     ∷ []
 
 pub edges-agree : Agree edges
-unfolding edges passes given held zeros feeding shaped closing tableBytes header first settingChecks wordChecks placesChecks taken packAnswer overflowCause factorChecks productChecks sumCause recordCause feedOverflow pairChecks feedChecks closeChecks table tableChecks buildChecks byTableChecks makeChecks headerChecks writeChecks readChecks
+unfolding edges passes given held zeros feeding shaped closing tableBytes header first settingChecks wordChecks wordsChecks placesChecks taken packAnswer overflowCause factorChecks productChecks sumCause recordCause feedOverflow pairChecks feedChecks closeChecks table tableChecks buildChecks byTableChecks makeChecks headerChecks jobChecks writeChecks readChecks
 edges-agree = refl
 
 -- ---- long lists
@@ -171,9 +199,9 @@ long p len = p ∷ replicate (len - 1) 0
 pub longEdges : List Row
 longEdges =
     -- 9 of product: 4,096 coefficients, in either list
-    checking (productChecks (settingOf 3 2 4 1) (long 3 4096) (long 3 4096) 0) (8 ∷ 0 ∷ [])
-    ∷ checking (productChecks (settingOf 3 2 4 1) (long 3 4097) [] 0) (given 9)
-    ∷ checking (productChecks (settingOf 3 2 4 1) [] (long 3 4097) 0) (given 9)
+    checking (productChecks small (long 3 4096) (long 3 4096) 0) (8 ∷ 0 ∷ [])
+    ∷ checking (productChecks small (long 3 4097) [] 0) (given 9)
+    ∷ checking (productChecks small [] (long 3 4097) 0) (given 9)
     -- 21: 928 words in all
     ∷ checking (writeChecks 0 (long 929 926) 928) (8 ∷ 0 ∷ [])
     ∷ checking (writeChecks 0 (long 929 927) 929) (given 21)
@@ -186,9 +214,6 @@ unfolding longEdges given long first settingChecks factorChecks productChecks wr
 long-agree = refl
 
 -- ---- the double lane
-
-abbrev small : Setting
-small = settingOf 3 2 4 1
 
 abbrev lane : Lane
 lane = laneOf small

@@ -4,7 +4,6 @@
 --     fedTimes           a record fed one pair some times; wordAfter, residuesAfter, closingAfter, what it prints of it
 --     starred            the table
 --     starred-agree      every row's two sides are the same, by computing the left ones
---     asked, asked-agree the same of what crates ask of each other: 11 of a word and of words, 8 of lists, on both sides of each limit
 --     first-works, second-idles
 --                        a feed that works on its first call and idles on the second keeps its promise on the first, and not on the second
 use Prim.Native.Nat.{ℕ, zero, suc, _*_}
@@ -16,15 +15,14 @@ use Rattle.polynomials.specs.Indices.{upto, first, roundedUp}
 use Rattle.polynomials.specs.Places.{fields, shifted}
 use Rattle.settings.specs.Answers.{answered, Verdict, _andThen_, numbers, wrote, leftBy}
 use Rattle.settings.specs.Settings.{base, places, settingChecks, settingOf}
-use Rattle.settings.specs.Coefficients.{firstBad, coefficientsCheck}
 use Rattle.settings.specs.Choices.{escapes, smallestWidth, noneCause, chooseAnswer}
 use Rattle.packed.specs.Taken.{taken}
-use Rattle.words.specs.Places.{wordChecks, wordsChecks, placesChecks, reduceAnswer}
+use Rattle.words.specs.Places.{wordChecks, placesChecks, reduceAnswer}
 use Rattle.packed.specs.Packing.{packAnswer}
 use Rattle.tables.specs.Tables.{table, tableChecks, buildChecks}
 use Rattle.packed.specs.Overflow.{feedOverflow}
 use Rattle.packed.specs.Running.{sumCause, recordCause, closingAt, afterPairs, fedPairs, pairChecks, feedChecks, closeChecks, keptBy, freshSum, recordOf, Feeds}
-use Rattle.examples.specs.Compared.{Row, Agree, answering, checking}
+use Rattle.examples.specs.Compared.{Row, Agree, answering}
 use Rattle.settings.specs.declared.setting.Setting.{Setting}
 use Rattle.packed.specs.declared.running.Record.{Record}
 use Rattle.packed.specs.declared.running.Counted.{Counted}
@@ -119,28 +117,6 @@ starred =
 pub starred-agree : Agree starred
 unfolding starred value none written choosing small packing reducing writing unpacking shifting building chooseAnswer noneCause smallestWidth escapes first settingChecks wordChecks placesChecks packAnswer reduceAnswer taken table tableChecks buildChecks fedTimes wordAfter residuesAfter closingAfter sumCause recordCause afterPairs feedOverflow pairChecks feedChecks closeChecks
 starred-agree = refl
-
--- ---- what crates ask of each other
-
--- the numbers are counted by hand from document 01's rows: at p = 3, k = 2, t = 4 a word has (2k-1) t = 12 bits, and 4,095 is the last that 11 lets
--- through; t = 3 is 5, since 2^3 <= 1 * 2 * 2^2
-pub asked : List Row
-asked =
-    checking (wordChecks small 4095) (0 ∷ 0 ∷ [])
-    ∷ checking (wordChecks small 4096) (11 ∷ 0 ∷ [])
-    ∷ checking (wordsChecks small (4095 ∷ 0 ∷ [])) (0 ∷ 0 ∷ [])
-    ∷ checking (wordsChecks small (4095 ∷ 4096 ∷ 4097 ∷ [])) (11 ∷ 1 ∷ [])
-    ∷ checking (wordsChecks small []) (0 ∷ 0 ∷ [])
-    ∷ checking (wordsChecks (settingOf 3 2 3 1) []) (5 ∷ 0 ∷ [])
-    ∷ checking (coefficientsCheck 3 (2 ∷ 0 ∷ []) (2 ∷ 2 ∷ [])) (0 ∷ 0 ∷ [])
-    ∷ checking (coefficientsCheck 3 (2 ∷ 0 ∷ []) (2 ∷ 3 ∷ [])) (8 ∷ 3 ∷ [])
-    ∷ checking (coefficientsCheck 3 (2 ∷ 3 ∷ []) (4 ∷ 3 ∷ [])) (8 ∷ 1 ∷ [])
-    ∷ record { gives = firstBad 3 (2 ∷ 0 ∷ []) ∷ firstBad 3 (2 ∷ 3 ∷ 3 ∷ []) ∷ []; prints = 2 ∷ 1 ∷ [] }
-    ∷ []
-
-pub asked-agree : Agree asked
-unfolding asked small first settingChecks wordChecks wordsChecks
-asked-agree = refl
 
 -- ---- a feed that works on its first call and idles after
 

@@ -72,7 +72,7 @@ lane-reply-0 a h = rw (lane-reply-number a) (number-0 a h)
 
 pub wrote-0 : (v : Verdict) (m : ℕ) → Never 0 v → (replyOf (v andThen answered m) .number ≡ 0) ↔ (refuses v ≡ false)
 wrote-0 (answered u) m h = (λ e. refl, λ e. refl)
-wrote-0 (refused number place) m h = (λ e. absurd (h place (ap (λ (n : ℕ). refused n place) e)), λ e. absurd (true≢false e))
+wrote-0 (refused number place) m h = number-0 (refused number place) h
 
 -- ---- 0 is no refusal's
 

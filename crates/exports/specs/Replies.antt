@@ -2,9 +2,9 @@
 --     replyOf a                 the reply that an answer a is: number 0, place 0 and the value; or the refusal's number and place, and the value 0
 --     laneReplyOf a             the same, where the value is a double
 --     reply-value, lane-reply-value
---                               a reply's value is the answer's
+--                               of a value the reply has 0, 0 and that value
 --     reply-refused, lane-reply-refused
---                               and of a refusal it has the number and the place
+--                               of a refusal it has the number, the place, and 0
 --     chosenReply, packedReply, wroteReply, closedReply, laneReply
 --                               the reply that each case of an answer of the library is
 --     Tells Keeps reply r       r is the reply of an answer that keeps the promise Keeps
@@ -36,17 +36,17 @@ abbrev pub laneReplyOf : Answer Float → LaneReply
 laneReplyOf (answered x) = record { number = 0; place = 0; value = x }
 laneReplyOf (refused number place) = record { number = number; place = place; value = double 0 }
 
-pub reply-value : (v : ℕ) → replyOf (answered v) .value ≡ v
-reply-value v = refl
+pub reply-value : (v : ℕ) → (replyOf (answered v) .number ≡ 0) × (replyOf (answered v) .place ≡ 0) × (replyOf (answered v) .value ≡ v)
+reply-value v = (refl, refl, refl)
 
-pub lane-reply-value : (x : Float) → laneReplyOf (answered x) .value ≡ x
-lane-reply-value x = refl
+pub reply-refused : (number place : ℕ) → (replyOf (refused number place) .number ≡ number) × (replyOf (refused number place) .place ≡ place) × (replyOf (refused number place) .value ≡ 0)
+reply-refused number place = (refl, refl, refl)
 
-pub reply-refused : (number place : ℕ) → (replyOf (refused number place) .number ≡ number) × (replyOf (refused number place) .place ≡ place)
-reply-refused number place = (refl, refl)
+pub lane-reply-value : (x : Float) → (laneReplyOf (answered x) .number ≡ 0) × (laneReplyOf (answered x) .place ≡ 0) × (laneReplyOf (answered x) .value ≡ x)
+lane-reply-value x = (refl, refl, refl)
 
-pub lane-reply-refused : (number place : ℕ) → (laneReplyOf (refused number place) .number ≡ number) × (laneReplyOf (refused number place) .place ≡ place)
-lane-reply-refused number place = (refl, refl)
+pub lane-reply-refused : (number place : ℕ) → (laneReplyOf (refused number place) .number ≡ number) × (laneReplyOf (refused number place) .place ≡ place) × (laneReplyOf (refused number place) .value ≡ double 0)
+lane-reply-refused number place = (refl, refl, refl)
 
 abbrev pub chosenReply : Chosen → Reply
 chosenReply a = replyOf (chosenSays a)
