@@ -1,25 +1,16 @@
 -- The limits of document 01 and of request T-07, each on both sides, through the checks of the calls: what the definitions give, beside what the documents
 -- say, counted by hand from their words. The prover computes the first and compares, so that a limit which is changed in a definition and in the code
 -- alike is seen here.
---     passes, given            nothing is refused; this number, with place 0
---     small                    p=3, k=2, t=4, n=1: words of 12 bits
---     held                     a record of p=3, k=2, t=5, n=2; feeding, closing, the checks of a feed of one pair to it, and of closing it; shaped, of
---                              two lists of these lengths
---     tableBytes               the table of p=3, t=4 with another last byte; 0 is the table's own
---     header                   the header of a job with p=2, k=1, t=1, n=1 and this length
+--     feeding, closing         the checks of a feed of one pair to a record, and of closing one; shaped, of feeding two lists of these lengths
 --     edges, edges-agree       the table, and that its two sides are the same
---     long                     a list of so many, whose first coefficient is p
 --     longEdges, long-agree    the same of limits on long lists
---     lane                     the record that make makes of that setting
---     laneEdges, lane-agree    the table of the lane: 13 and 11 by that record, which made-held says is not 12
-use Prim.Native.Nat.{ℕ, _+_, _-_, _*_}
-use mathlib.Core.Path.{_≡_, refl}
-use mathlib.Core.Bool.{false}
+--     laneEdges, lane-agree    the same of the lane: 13 and 11
+use Prim.Native.Nat.{ℕ, _+_, _*_}
+use mathlib.Core.Path.{refl}
 use mathlib.Core.List.{List, [], _∷_, _++_, map}
 use lib.ListN.{length, replicate, take, drop}
 use lib.Ieee.{inUnsigned, whole, ofInt, toUnsigned}
 use Rattle.polynomials.specs.Indices.{first, roundedUp}
-use Rattle.layout.specs.Numbers.{bigEndian}
 use Rattle.doubles.specs.Whole.{double}
 use Rattle.settings.specs.Answers.{Verdict}
 use Rattle.settings.specs.Settings.{settingChecks, settingOf, places}
@@ -31,31 +22,12 @@ use Rattle.packed.specs.Overflow.{overflowCause, feedOverflow}
 use Rattle.packed.specs.Products.{factorChecks, productChecks}
 use Rattle.packed.specs.Running.{sumCause, recordCause, pairChecks, feedChecks, closeChecks, freshSum, recordOf}
 use Rattle.tables.specs.Tables.{table, tableChecks, buildChecks, byTableChecks}
-use Rattle.lane.specs.Lanes.{makeChecks, laneOf, heldCause, laneSumChecks, reduceChecks}
-use Rattle.lane.specs.Answering.{made-held}
+use Rattle.lane.specs.Lanes.{makeChecks, laneSumChecks, reduceChecks}
 use Rattle.jobs.specs.Jobs.{headerChecks, jobChecks}
 use Rattle.labels.specs.Labels.{writeChecks, readChecks}
+use Rattle.exports.specs.Exports.{wholeSumChecks}
 use Rattle.examples.specs.Compared.{Row, Agree, answering, checking}
-use Rattle.settings.specs.declared.setting.Setting.{Setting}
-use Rattle.packed.specs.declared.running.Record.{Record}
-use Rattle.lane.specs.declared.Lane.{Lane}
-
-passes : List ℕ
-passes = 0 ∷ 0 ∷ []
-
-given : ℕ → List ℕ
-given number = number ∷ 0 ∷ []
-
--- p = 3, k = 2, t = 4, n = 1
-abbrev small : Setting
-small = settingOf 3 2 4 1
-
--- p = 3, k = 2, t = 5, n = 2
-held : ℕ → ℕ → List ℕ → Record
-held total word residues = recordOf (settingOf 3 2 5 2) (record { total = total; word = word; residues = residues })
-
-zeros : List ℕ
-zeros = replicate 15 0
+use Rattle.examples.specs.Inputs.{passes, given, small, held, zeros, tableBytes, header, long, lane, lane-held}
 
 feeding : ℕ → Verdict
 feeding total = feedChecks (held total 0 zeros) (1 ∷ 2 ∷ []) (2 ∷ 2 ∷ [])
@@ -65,13 +37,6 @@ shaped m n = feedChecks (held 0 0 zeros) (replicate m 0) (replicate n 0)
 
 closing : ℕ → ℕ → List ℕ → Verdict
 closing total word residues = closeChecks (held total word residues) 3
-
-tableBytes : ℕ → List ℕ
-tableBytes last = 0 ∷ 0 ∷ 0 ∷ 13 ∷ 1 ∷ 0 ∷ 3 ∷ 4 ∷ 0 ∷ 1 ∷ 2 ∷ 2 ∷ 0 ∷ 1 ∷ 1 ∷ 2 ∷ last ∷ []
-
--- p = 2, k = 1, t = 1, n = 1, and a length
-header : ℕ → List ℕ
-header len = bigEndian 4 len ++ (1 ∷ 0 ∷ 0 ∷ 0 ∷ 2 ∷ 1 ∷ 1 ∷ 0 ∷ 0 ∷ 0 ∷ 1 ∷ [])
 
 pub edges : List Row
 edges =
@@ -125,13 +90,19 @@ edges =
     ∷ checking (placesChecks small 0 3) passes
     ∷ checking (closeChecks (held 0 0 zeros) 2) (given 10)
     ∷ checking (closeChecks (held 0 0 zeros) 3) passes
+    ∷ checking (wholeSumChecks small [] [] 2) (given 10)
+    ∷ checking (wholeSumChecks small [] [] 3) passes
     ∷ checking (buildChecks small 16) (given 10)
     ∷ checking (buildChecks small 17) passes
+    -- and by table a word for each word
+    ∷ checking (byTableChecks small (tableBytes 0) (0 ∷ 0 ∷ []) 1) (given 10)
+    ∷ checking (byTableChecks small (tableBytes 0) (0 ∷ 0 ∷ []) 2) passes
     -- 11: words of 12 bits
     ∷ checking (wordChecks small 4095) passes
     ∷ checking (wordChecks small 4096) (given 11)
     ∷ checking (wordsChecks small (4095 ∷ 0 ∷ [])) passes
     ∷ checking (wordsChecks small (4095 ∷ 4096 ∷ 4097 ∷ [])) (11 ∷ 1 ∷ [])
+    ∷ checking (byTableChecks small (tableBytes 0) (4095 ∷ 4096 ∷ 4097 ∷ []) 3) (11 ∷ 1 ∷ [])
     -- also where there is no word the setting is tested
     ∷ checking (wordsChecks small []) passes
     ∷ checking (wordsChecks (settingOf 3 2 3 1) []) (given 5)
@@ -180,6 +151,8 @@ edges =
     ∷ checking (readChecks 9 []) (given 19)
     -- 8 of a label: words below 929
     ∷ checking (writeChecks 0 (0 ∷ 929 ∷ []) 4) (8 ∷ 1 ∷ [])
+    ∷ checking (readChecks 0 (0 ∷ 0 ∷ 928 ∷ [])) passes
+    ∷ checking (readChecks 0 (0 ∷ 0 ∷ 929 ∷ [])) (8 ∷ 2 ∷ [])
     -- 20: one data word; beside two check words a third word
     ∷ checking (writeChecks 0 [] 2) (given 20)
     ∷ checking (readChecks 0 (0 ∷ 0 ∷ [])) (given 20)
@@ -187,14 +160,10 @@ edges =
     ∷ []
 
 pub edges-agree : Agree edges
-unfolding edges passes given held zeros feeding shaped closing tableBytes header first settingChecks wordChecks wordsChecks placesChecks taken packAnswer overflowCause factorChecks productChecks sumCause recordCause feedOverflow pairChecks feedChecks closeChecks table tableChecks buildChecks byTableChecks makeChecks headerChecks jobChecks writeChecks readChecks
+unfolding edges passes given held zeros feeding shaped closing tableBytes header first settingChecks wordChecks wordsChecks placesChecks taken packAnswer overflowCause factorChecks productChecks sumCause recordCause feedOverflow pairChecks feedChecks closeChecks table tableChecks buildChecks byTableChecks makeChecks headerChecks jobChecks writeChecks readChecks wholeSumChecks
 edges-agree = refl
 
 -- ---- long lists
-
--- the first coefficient is p: that 8 is given with place 0 shows that the check before it was passed
-long : ℕ → ℕ → List ℕ
-long p len = p ∷ replicate (len - 1) 0
 
 pub longEdges : List Row
 longEdges =
@@ -215,13 +184,6 @@ long-agree = refl
 
 -- ---- the double lane
 
-abbrev lane : Lane
-lane = laneOf small
-
-not-12 : heldCause lane ≡ false
-unfolding makeChecks settingChecks
-not-12 = made-held small lane refl
-
 -- 13: n pairs, which is one; 11: words of 12 bits
 pub laneEdges : List Row
 laneEdges =
@@ -233,4 +195,4 @@ laneEdges =
 
 pub lane-agree : Agree laneEdges
 unfolding laneEdges passes given first laneSumChecks reduceChecks inUnsigned whole ofInt toUnsigned
-lane-agree = rw not-12
+lane-agree = rw lane-held

@@ -23,7 +23,7 @@ use Rattle.tables.specs.Tables.{table, tableChecks, buildChecks}
 use Rattle.packed.specs.Overflow.{feedOverflow}
 use Rattle.packed.specs.Running.{sumCause, recordCause, closingAt, afterPairs, fedPairs, pairChecks, feedChecks, closeChecks, keptBy, freshSum, recordOf, Feeds}
 use Rattle.examples.specs.Compared.{Row, Agree, answering}
-use Rattle.settings.specs.declared.setting.Setting.{Setting}
+use Rattle.examples.specs.Inputs.{small}
 use Rattle.packed.specs.declared.running.Record.{Record}
 use Rattle.packed.specs.declared.running.Counted.{Counted}
 use Rattle.packed.specs.declared.running.Counted.the-variants.{Pairs}
@@ -39,10 +39,6 @@ written vs = 0 ∷ 0 ∷ length vs ∷ vs
 
 choosing : ℕ → ℕ → ℕ → List ℕ → Row
 choosing p k n prints = answering (chooseAnswer p k n) prints
-
--- p = 3, k = 2, t = 4
-small : Setting
-small = settingOf 3 2 4 1
 
 packing : List ℕ → List ℕ → Row
 packing xs prints = answering (packAnswer small xs) prints
@@ -115,7 +111,7 @@ starred =
     ∷ []
 
 pub starred-agree : Agree starred
-unfolding starred value none written choosing small packing reducing writing unpacking shifting building chooseAnswer noneCause smallestWidth escapes first settingChecks wordChecks placesChecks packAnswer reduceAnswer taken table tableChecks buildChecks fedTimes wordAfter residuesAfter closingAfter sumCause recordCause afterPairs feedOverflow pairChecks feedChecks closeChecks
+unfolding starred value none written choosing packing reducing writing unpacking shifting building chooseAnswer noneCause smallestWidth escapes first settingChecks wordChecks placesChecks packAnswer reduceAnswer taken table tableChecks buildChecks fedTimes wordAfter residuesAfter closingAfter sumCause recordCause afterPairs feedOverflow pairChecks feedChecks closeChecks
 starred-agree = refl
 
 -- ---- a feed that works on its first call and idles after

@@ -125,13 +125,9 @@ sax-sum-never-12 s xs ys old r after gives e =
 
 -- ---- the double lane
 
--- a promise of the lane, by what it says: the checks, and then a value
-told-never-12 : (Keeps : LaneAnswer → Type 0) (r : LaneReply) (v : Verdict) (x : Float) → Never 12 v → ((a : LaneAnswer) → Keeps a → laneReply a ≡ laneReplyOf (v andThen answered x)) → Tells Keeps laneReply r → r .number ≡ 12 → ⊥
-told-never-12 Keeps r v x none told h e = go v none (sym (ap (λ (r : LaneReply). r .number) (h .is ∙ told (h .answer) (h .keeps))) ∙ e)
-  where
-    go : (v : Verdict) → Never 12 v → laneReplyOf (v andThen answered x) .number ≡ 12 → ⊥
-    go (answered u) none e = omega arith
-    go (refused number place) none e = none place (ap (λ (n : ℕ). refused n place) e)
+-- a promise of the lane, by what it says: some answer that cannot be 12
+told-never-12 : (Keeps : LaneAnswer → Type 0) (r : LaneReply) (a : Answer Float) → Never 12 a → ((x : LaneAnswer) → Keeps x → laneReply x ≡ laneReplyOf a) → Tells Keeps laneReply r → r .number ≡ 12 → ⊥
+told-never-12 Keeps r a none told h e = number-never a 12 (omega arith) none (sym (lane-reply-number a) ∙ sym (ap (λ (r : LaneReply). r .number) (h .is ∙ told (h .answer) (h .keeps))) ∙ e)
 
 -- a refusal of make is none of a record
 unmade-never-12 : (s : Setting) (m : Made) (Then : Lane → LaneReply → Type 0) (r : LaneReply) → inLanes.Makes s m → byMade m Then r → ((l : Lane) → inLanes.Makes s (inMade.Lane l) → Then l r → r .number ≡ 12 → ⊥) → r .number ≡ 12 → ⊥
@@ -144,9 +140,9 @@ unmade-never-12 s (inMade.Refused why) Then r makes gives rest e =
 pub sax-lane-sum-never-12 : (s : Setting) (xs ys : List ℕ) (r : LaneReply) → GivesLaneSum s xs ys r → r .number ≡ 12 → ⊥
 sax-lane-sum-never-12 s xs ys r h =
     unmade-never-12 s (h .made) (λ l. Tells (inLanes.LaneSums l xs ys) laneReply) r (h .makes) (h .gives)
-    (λ l makes. told-never-12 (inLanes.LaneSums l xs ys) r (inLanes.laneSumChecks l xs ys) (double (inLanes.sumWord (l .setting) xs ys)) (given-never 12 refl (held-sum-gives l xs ys (made-held s l makes))) (λ a keeps. ap laneReplyOf keeps))
+    (λ l makes. told-never-12 (inLanes.LaneSums l xs ys) r _ (given-never 12 refl (given-then (held-sum-gives l xs ys (made-held s l makes)) (given-value (double (inLanes.sumWord (l .setting) xs ys))))) (λ a keeps. ap laneReplyOf keeps))
 
 pub sax-lane-reduce-never-12 : (s : Setting) (x : Float) (r : LaneReply) → GivesLaneReduced s x r → r .number ≡ 12 → ⊥
 sax-lane-reduce-never-12 s x r h =
     unmade-never-12 s (h .made) (λ l. Tells (inLanes.LaneReduces l x) laneReply) r (h .makes) (h .gives)
-    (λ l makes. told-never-12 (inLanes.LaneReduces l x) r (inLanes.reduceChecks l x) (double (reducedWord (l .setting) (wholePart x))) (given-never 12 refl (held-reduce-gives l x (made-held s l makes))) (λ a keeps. ap laneReplyOf keeps))
+    (λ l makes. told-never-12 (inLanes.LaneReduces l x) r _ (given-never 12 refl (given-then (held-reduce-gives l x (made-held s l makes)) (given-value (double (reducedWord (l .setting) (wholePart x)))))) (λ a keeps. ap laneReplyOf keeps))
