@@ -10,6 +10,7 @@ use Rattle.polynomials.specs.Indices.{first}
 use Rattle.layout.specs.Decimals.{digits, decimal}
 use Rattle.settings.specs.Settings.{settingChecks}
 use Rattle.packed.specs.Taken.{taken}
+use Rattle.texts.specs.Putting.{refusedText}
 use Rattle.jobs.specs.Lines.{sumsLine, refusedLine}
 use Rattle.jobs.specs.Jobs.{headerChecks, jobChecks, jobLine}
 
@@ -20,13 +21,13 @@ abbrev pub threePairs : List ℕ
 threePairs = (0 ∷ 0 ∷ 0 ∷ 35 ∷ 1 ∷ 0 ∷ 0 ∷ 0 ∷ 3 ∷ 2 ∷ 5 ∷ 0 ∷ 0 ∷ 0 ∷ 2 ∷ []) ++ onePair ++ onePair ++ onePair
 
 pub three-pairs : jobLine threePairs ≡ 51 ∷ 32 ∷ 50 ∷ 32 ∷ 53 ∷ 32 ∷ 50 ∷ 32 ∷ 51 ∷ 32 ∷ 50 ∷ 58 ∷ 32 ∷ 48 ∷ 32 ∷ 48 ∷ 32 ∷ 48 ∷ 10 ∷ []
-unfolding jobLine jobChecks headerChecks sumsLine refusedLine decimal digits first settingChecks taken
+unfolding jobLine jobChecks headerChecks sumsLine refusedLine refusedText decimal digits first settingChecks taken
 three-pairs = refl
 
 pub early : jobLine (take 38 threePairs) ≡ 114 ∷ 101 ∷ 102 ∷ 117 ∷ 115 ∷ 101 ∷ 100 ∷ 32 ∷ 49 ∷ 55 ∷ 32 ∷ 48 ∷ 10 ∷ []
-unfolding jobLine jobChecks headerChecks sumsLine refusedLine decimal digits first settingChecks taken
+unfolding jobLine jobChecks headerChecks sumsLine refusedLine refusedText decimal digits first settingChecks taken
 early = refl
 
 pub extra : jobLine (threePairs ++ (0 ∷ [])) ≡ 114 ∷ 101 ∷ 102 ∷ 117 ∷ 115 ∷ 101 ∷ 100 ∷ 32 ∷ 49 ∷ 55 ∷ 32 ∷ 48 ∷ 10 ∷ []
-unfolding jobLine jobChecks headerChecks sumsLine refusedLine decimal digits first settingChecks taken
+unfolding jobLine jobChecks headerChecks sumsLine refusedLine refusedText decimal digits first settingChecks taken
 extra = refl

@@ -2,12 +2,14 @@
 --     reductionsOf r, sumsOf r       what closing a record gives: the reductions, and the 2k-1 coefficients
 --     adding-early, adding-sums      the line where pairs are added up: an early end, or the sums
 --     adding-range                   the setting there is in range
---     adding-short                   the numbers of the sums' line have room in a line
+--     adding-short                   the numbers of the sums' line are short
 --     closed-never                   closing the record refuses nothing, if a list of 15 or more elements is lent
---     closed-short, closed-line      with what it answers and leaves in the list the numbers have room, and make that line
+--     closed-line                    with what it answers and leaves in the list the numbers make that line
 --     state-adding                   what a coherent state promises while pairs are added up
 --     line-incoherent, line-at       the line of a state that is not coherent, and at each stage of one that is
 --     line-fits                      no state's line is longer than the longest
+--     line-room                      so it stands whole in a list with room for the longest that it was put into
+--     finish-short, finish-written   what keeps the promise of finish: 10, and that line put into the buffer
 use Prim.Native.Nat.{ℕ, _≤_, _<_}
 use mathlib.Core.Path.{_≡_, refl, sym, _∙_}
 use mathlib.Core.Bool.{Bool, true, false, not, true≢false, or-true}
@@ -27,16 +29,20 @@ use Rattle.polynomials.specs.BlockLaws.{rounded-up-few}
 use Rattle.settings.specs.Limits.{residuePlaces}
 use Rattle.settings.specs.Answers.{answered, fine}
 use Rattle.settings.specs.AnswerLaws.{never}
+use Rattle.settings.specs.SharedAnswers.{writes-nothing}
 use Rattle.settings.specs.Settings.{places, InRange}
 use Rattle.settings.specs.Bounds.{bounds}
 use Rattle.packed.specs.Running.{closeChecks, closingAt, closedSays, Closes}
 use Rattle.packed.specs.RunningChecks.{close-pass}
+use Rattle.texts.specs.Putting.{Puts}
+use Rattle.texts.specs.PuttingLaws.{puts-size, put-fits}
 use Rattle.settings.specs.declared.refusals.Refusal.{Refusal}
+use Rattle.settings.specs.declared.answers.Wrote.the-variants as inWrote
 use Rattle.packed.specs.declared.running.Record.{Record}
 use Rattle.packed.specs.declared.running.Closed.{Closed}
 use Rattle.packed.specs.declared.running.Closed.the-variants as inClosed
 use Rattle.jobs.specs.Lines.{sumsLine, refusedLine}
-use Rattle.jobs.specs.States.{refusalCause, settledCause, stateCause, addingLine, lineAt, lineOf}
+use Rattle.jobs.specs.States.{refusalCause, settledCause, stateCause, addingLine, lineAt, lineOf, finishChecks, Finishes}
 use Rattle.jobs.specs.Adding.{Adding}
 use Rattle.jobs.specs.Texts.{longestLine, Short}
 use Rattle.jobs.specs.CoherentLaws.{adding-waits}
@@ -96,9 +102,6 @@ module _ (r : Record) (pairs : ℕ) (h : Adding (r .setting) (r .sum) pairs) whe
     module _ (m : ℕ) (e : a ≡ inClosed.Reductions m) where
       count : m ≡ reductionsOf r
       count = let same : answered m ≡ answered (reductionsOf r) = rw e at said in cc
-
-      pub closed-short : Short (r .setting) pairs m (take (places (r .setting)) after)
-      closed-short = rw (count, left) adding-short
 
       pub closed-line : pairs ≤ r .sum .total → addingLine r pairs ≡ sumsLine (r .setting) pairs m (take (places (r .setting)) after)
       closed-line l = rw (count, left) (adding-sums r pairs l)
@@ -172,3 +175,29 @@ line-fits st = go (stateCause st) refl (st .stage) refl
     go false h (inStage.Refused r) e =
         let cause : settledCause r st ≡ false = rw e at h in
         rw (line-at st (inStage.Refused r) h e) (settled-fits r (neither (refusalCause r) _ cause .0))
+
+-- ---- into the buffer
+
+-- the line in a list with room for the longest
+module _ (st : State) (blank line : List ℕ) (size : ℕ) (room : longestLine ≤ length blank) (put : Puts 0 (lineOf st) blank size line) where
+  told : (size ≡ length (lineOf st)) × (line ≡ lineOf st ++ drop (length (lineOf st)) blank)
+  told = put-fits put (le-trans (line-fits st) room)
+
+  pub line-room : size ≤ length line
+  line-room = omega (arith, told .0, line-fits st, puts-size put)
+
+  line-there : take size line ≡ lineOf st
+  line-there = rw (told .1) (take-at (lineOf st) _ size (sym (told .0)))
+
+  module _ (old : List ℕ) where
+    pub finish-short : length old < size → Finishes st old (inWrote.Refused (record { number = 10; place = 0 })) old
+    finish-short h =
+        writes-nothing (finishChecks (lineOf st) (length old)) (lineOf st) old (record { number = 10; place = 0 })
+        (rw (lt-ltb (length old) (length (lineOf st)) (omega (arith, told .0))))
+
+    pub finish-written : {r : ℕ} {after : List ℕ} → size ≤ length old → Puts 0 (take size line) old r after → Finishes st old (inWrote.Count r) after
+    finish-written h p =
+        let fits : length (lineOf st) ≤ length old = omega (arith, told .0) in
+        let all = put-fits (rw line-there at p) fits in
+        let passed : finishChecks (lineOf st) (length old) ≡ fine = rw (le-ltb (length old) (length (lineOf st)) fits) in
+        (rw (passed, all .0), rw passed (all .1))

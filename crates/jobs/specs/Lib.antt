@@ -12,7 +12,6 @@ pub mod TakingLaws
 pub mod CoherentLaws
 pub mod CompletingLaws
 pub mod HeaderLaws
-pub mod TextLaws
 pub mod LineLaws
 pub mod FinishLaws
 pub mod JobLaws

@@ -4,11 +4,12 @@ use crate::adding::take_pairs;
 use crate::coherent::state_cause;
 use crate::header::blank;
 use crate::header::take_header;
-use crate::line::line_of;
-use crate::line::put;
+use crate::line::put_line;
 use packed::running::Record;
 use settings::answers::Wrote;
+use settings::refusals;
 use settings::refusals::Refusal;
+use texts::putting::put;
 
 // A buffer of so many bytes has room for every line.
 pub const LONGEST_LINE: usize = 126;
@@ -66,5 +67,10 @@ pub fn take(state: State, piece: &[u8]) -> State
 pub fn finish(state: State, out: &mut [u8]) -> Wrote
     ensures { λ r. ⌜ Finishes state (now (out .entry)) r (now (out .exit)) ⌝ }
 {
-    put(line_of(state), out)
+    let mut line = [0u8; LONGEST_LINE];
+    let size = put_line(state, &mut line);
+    if out.len() < size {
+        return Wrote::Refused(refusals::SHORT);
+    }
+    Wrote::Count(put(&line[..size], out, 0))
 }

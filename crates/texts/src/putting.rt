@@ -52,7 +52,7 @@ pub fn put_spaced(n: u64, out: &mut [u8], at: usize) -> usize
     put_number(n, out, next)
 }
 
-// Coefficients, a space before each.
+// Coefficients, a space before each. A place that is too far is answered as the one after the last, also where the list is empty.
 pub fn put_list(ns: &[u16], out: &mut [u8], at: usize) -> usize
     ensures { λ r. ⌜ Puts at (spaced (now (ns .entry))) (now (out .entry)) r (now (out .exit)) ⌝ }
 {
