@@ -1,5 +1,5 @@
-"""Rows 1 to 6 of document 01 in whole numbers, the pieces of a line, and lists to work on: what the expected.py of every cases program shares. No code of the
-crates is used."""
+"""Rows 1 to 6 of document 01 and the choice of a width in whole numbers, what a refusal is, and the pieces of a line: what the modules here and every
+expected.py share. A width is found by trying all of them. No code of the crates is used."""
 
 ALL = 2**64 - 1
 
@@ -7,28 +7,34 @@ ALL = 2**64 - 1
 SEVEN = 7
 
 
-# two flat lists for k = 2: lengths that differ, or are no multiple of k, and at the end lengths that will do
-SHAPES = [
-    ([1, 2], [2, 2, 1, 1]),
-    ([1, 2, 1, 1], [2, 2]),
-    ([], [2, 2]),
-    ([1, 2], []),
-    ([1], [2]),
-    ([1, 2, 1], [2, 2, 1]),
-    ([1, 2, 1], [2, 2]),
-    ([1, 2, 1, 1], [2, 2, 1, 1]),
-]
+class Refused(Exception):
+    """A refusal's number and place."""
 
-# two such lists for p = 3 with a coefficient 3 or more: in the first, in the second, in both, at either end; the first of several
-COEFFICIENTS = [
-    ([3, 2, 1, 1], [2, 2, 1, 1]),
-    ([1, 2, 1, 3], [2, 2, 1, 1]),
-    ([1, 2, 1, 1], [3, 2, 1, 1]),
-    ([1, 2, 1, 1], [2, 2, 1, 3]),
-    ([1, 2, 1, 3], [3, 2, 1, 1]),
-    ([1, 4, 65535, 3], [2, 2, 1, 1]),
-    ([1, 2, 1, 1], [2, 65535, 3, 4]),
-]
+    def __init__(self, number, place=0):
+        super().__init__(number, place)
+        self.number, self.place = number, place
+
+
+def refuse(number):
+    """The refusal of this number, or nothing where it is 0."""
+    if number:
+        raise Refused(number)
+
+
+def refuse_first(number, places):
+    """The refusal of this number at the first of these places, or nothing where there is none."""
+    for place in places:
+        raise Refused(number, place)
+
+
+def refuse_coefficients(p, *lists):
+    """8: searched as one list, each after the one before."""
+    refuse_first(8, (i for i, x in enumerate([x for xs in lists for x in xs]) if x >= p))
+
+
+def refuse_short(lent, elements):
+    """10."""
+    refuse(10 if lent < elements else 0)
 
 
 def ranges(p, k, n):
@@ -58,6 +64,23 @@ def check(p, k, t, n):
     return narrow_or_no_room(p, k, t, n)
 
 
+def choose(p, k, n):
+    refuse(ranges(p, k, n))
+    widths = [t for t in range(1, 64) if narrow_or_no_room(p, k, t, n) == 0]
+    refuse(0 if widths else 7)
+    return min(widths)
+
+
+def largest_batch(p, k, t, n):
+    """Whether no larger n is accepted."""
+    return check(p, k, t, n) == 0 and check(p, k, t, n + 1) == 5
+
+
+def first_bad(p, xs):
+    """The first index whose coefficient is p or more, or the length."""
+    return next((i for i, x in enumerate(xs) if x >= p), len(xs))
+
+
 def words(*parts):
     """Numbers, texts and lists of them, one space apart."""
     flat = []
@@ -66,16 +89,29 @@ def words(*parts):
     return " ".join(str(x) for x in flat)
 
 
-def made(p, c, length):
-    """Each coefficient by a power of its own, and not from the one before."""
-    return [c * pow(75, i, 65537) % 65537 % p for i in range(length)]
+def digest(xs):
+    answer = 0
+    for x in xs:
+        answer = (answer * 257 + x) % 1000003
+    return answer
 
 
 def listed(xs):
     """A list, or of a long one its length and its digest."""
-    if len(xs) <= 16:
-        return xs
-    digest = 0
-    for x in xs:
-        digest = (digest * 257 + x) % 1000003
-    return [len(xs), "with digest", digest]
+    return xs if len(xs) <= 16 else [len(xs), "with digest", digest(xs)]
+
+
+# what document 01 prints of Choose: a width, or 7
+PRINTED = {
+    (3, 4, 31): 9, (3, 4, 32): None,
+    (929, 2, 1): 21, (929, 2, 2): None,
+    (2, 8, 1): 4, (2, 8, 2): None,
+    (65536, 1, 1): 32,
+    (37, 3, 1): 12, (38, 3, 1): None,
+}
+
+for case, printed in PRINTED.items():
+    try:
+        assert choose(*case) == printed, case
+    except Refused as refusal:
+        assert printed is None and refusal.number == 7, case

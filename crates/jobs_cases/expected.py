@@ -2,11 +2,11 @@
 """What jobs_cases must write: python3 crates/jobs_cases/expected.py > crates/jobs_cases/stdout
 
 The rows are those of the program's standard input, and their lines stand there: they come from an independent program. Each is asserted to be
-what `job` gives, which goes by document 01's words, in whole numbers, from all bytes at once; the large jobs have their lines from it alone,
-from bytes that are made here by the same rule. A state that the program puts together by hand is judged by `sound`, clause by clause, and
-that each case lies on the side that it is here for is asserted; what take makes of a coherent one is worked out from all of its bytes at
-once. The running record is that of expected/records.py. No code of the crates is used. The inputs are written out again, so a case that the
-program lacks shows as a difference."""
+what `job` of expected/jobs.py gives, which goes by document 01's words, in whole numbers, from all bytes at once; the large jobs have their
+lines from it alone, from bytes that are made here by the same rule. A state that the program puts together by hand is judged by `sound`, clause
+by clause, and that each case lies on the side that it is here for is asserted; what take makes of a coherent one is worked out from all of its
+bytes at once. The running record is that of expected/records.py. No code of the crates is used. The inputs are written out again, so a case
+that the program lacks shows as a difference."""
 
 import os
 import struct
@@ -15,170 +15,9 @@ import sys
 HERE = os.path.dirname(os.path.abspath(__file__))
 sys.path.insert(0, os.path.join(HERE, "..", "..", "expected"))
 from document import ALL, SEVEN, check, words
-from records import MOST, Record, bounds, coherent, fields, packed, places, schoolbook
-
-HEADER = 15
-HELD = 32
-
-
-# ---- lines and bytes
-
-
-def refused(number, place):
-    return words("refused", number, place)
-
-
-def sums_line(s, pairs, sums):
-    p, k, t, n = s
-    return words(s, pairs, -(-pairs // n)) + ": " + words(sums)
-
-
-def number(bs):
-    return int.from_bytes(bs, "big")
-
-
-def setting(header):
-    return number(header[5:9]), header[9], header[10], number(header[11:15])
-
-
-def coefficients(bs):
-    """The whole ones."""
-    return struct.unpack(">%dH" % (len(bs) // 2), bs[: len(bs) // 2 * 2])
-
-
-def pairs_in(k, cs):
-    return [(cs[i : i + k], cs[i + k : i + 2 * k]) for i in range(0, len(cs) - 2 * k + 1, 2 * k)]
-
-
-def first_bad(p, cs):
-    """The index of the first coefficient that is p or more; None where there is none."""
-    if max(cs, default=0) < p:
-        return None
-    return next(i for i, x in enumerate(cs) if x >= p)
-
-
-# ---- a job
-
-
-def header_checks(header):
-    """17, 1 to 6, 17, 13, or 0."""
-    if len(header) < HEADER or header[4] != 1 or number(header[:4]) < 11:
-        return 17
-    if check(*setting(header)):
-        return check(*setting(header))
-    pairs, rest = divmod(number(header[:4]) - 11, 4 * header[9])
-    if rest:
-        return 17
-    if pairs > MOST:
-        return 13
-    return 0
-
-
-def job(bs):
-    """The line of a job, from all of its bytes."""
-    if header_checks(bs[:HEADER]):
-        return refused(header_checks(bs[:HEADER]), 0)
-    p, k, t, n = setting(bs)
-    declared = number(bs[:4]) - 11
-    cs = coefficients(bs[HEADER : HEADER + declared])
-    if first_bad(p, cs) is not None:
-        return refused(8, first_bad(p, cs))
-    if len(bs) != HEADER + declared:
-        return refused(17, 0)
-    return sums_line((p, k, t, n), declared // (4 * k), [x % p for x in schoolbook(k, pairs_in(k, cs))])
-
-
-# ---- states
-
-BLANK = Record((0, 0, 0, 0))
-
-
-class State:
-    """A stage, the held bytes with zeros after them, how many of them count, the declared pairs, and a record."""
-
-    def __init__(self, stage, held=(), size=None, pairs=0, record=BLANK):
-        self.stage, self.size, self.pairs, self.record = stage, len(held) if size is None else size, pairs, record
-        self.held = list(held) + [0] * (HELD - len(held))
-
-    def listed(self):
-        return [self.stage, "size", self.size, "held", self.held, "pairs", self.pairs, "record", self.record.listed()]
-
-    def shown(self):
-        return " ".join(words(x) for x in self.listed())
-
-
-def settled(number, place):
-    return State(refused(number, place))
-
-
-def sound(state):
-    """Whether it is coherent."""
-    if any(state.held[state.size :]):
-        return False
-    if state.stage == "pairs":
-        if not coherent(state.record):
-            return False
-        (p, k, t, n), total = state.record.s, state.record.sum[0]
-        return (
-            total <= state.pairs <= MOST
-            and state.size < 4 * k
-            and state.size <= 4 * k * (state.pairs - total)
-            and first_bad(p, coefficients(bytes(state.held[: state.size]))) is None
-        )
-    if state.pairs or any(state.record.s) or state.record.sum[:2] != (0, 0) or any(state.record.sum[2]):
-        return False
-    if state.stage == "header":
-        return state.size < HEADER
-    cause, place = [int(x) for x in state.stage.split()[1:]]
-    if cause == 8:
-        return state.size == 0 and place < 2 * 8 * MOST
-    return state.size == 0 and place == 0 and cause in (1, 2, 3, 4, 5, 6, 13, 17)
-
-
-def begun(bs):
-    """The state after the first bytes of a job."""
-    if len(bs) < HEADER:
-        return State("header", bs)
-    if header_checks(bs[:HEADER]):
-        return settled(header_checks(bs[:HEADER]), 0)
-    return added(Record(setting(bs)), (number(bs[:4]) - 11) // (4 * bs[9]), bs[HEADER:])
-
-
-def added(record, pairs, bs):
-    """A record, and the bytes of pairs since."""
-    (p, k, t, n), total = record.s, record.sum[0]
-    room = 4 * k * (pairs - total)
-    bad = first_bad(p, coefficients(bs[:room]))
-    if bad is not None:
-        return settled(8, 2 * k * total + bad)
-    if len(bs) > room:
-        return settled(17, 0)
-    whole = pairs_in(k, coefficients(bs))
-    return State("pairs", bs[4 * k * len(whole) :], None, pairs, record.fed(whole))
-
-
-def take(state, piece):
-    if not sound(state):
-        return state
-    all_held = bytes(state.held[: state.size]) + bytes(piece)
-    if state.stage == "header":
-        return begun(all_held)
-    if state.stage == "pairs":
-        return added(state.record, state.pairs, all_held)
-    return state
-
-
-def finish(state):
-    if not sound(state):
-        return refused(12, 0)
-    if state.stage == "header":
-        return refused(17, 0)
-    if state.stage != "pairs":
-        return state.stage
-    s, (total, word, residues) = state.record.s, state.record.sum
-    if total < state.pairs:
-        return refused(17, 0)
-    return sums_line(s, state.pairs, [(x + y) % s[0] for x, y in zip(residues, fields(s, word))])
+from jobs import DOCUMENT, HEADER, State, begun, finish, job, settled, sound, take
+from records import MOST, Record, above
+from words import places
 
 
 def show_taken(state, piece, side):
@@ -192,9 +31,6 @@ def show_taken(state, piece, side):
 
 
 # ---- rows
-
-DOCUMENT = bytes.fromhex("000000230100000003020500000002" + "0001000200020002" * 3)
-assert job(DOCUMENT) == "3 2 5 2 3 2: 0 0 0"
 
 
 def show_row(row):
@@ -384,11 +220,6 @@ LARGE = Record((65536, 1, 32, 1), 1)
 LONG = Record((2, 8, 4, 1), 1, 0, [1] * 15)
 LONGEST = Record((2, 8, 4, 1), 999999, 0, [1] * 15)
 ONE_PIECE = [0, 1, 0, 2, 0, 2, 0, 2]
-
-
-def above(s, r, js):
-    """The word with each field at its bound for r pairs, and one more at these places."""
-    return packed(s[2], [x + (j in js) for j, x in enumerate(bounds(s, r))])
 
 
 def adding(held, size, pairs, record, side, piece=ONE_PIECE):

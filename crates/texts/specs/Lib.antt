@@ -3,6 +3,7 @@ pub mod KindLaws
 pub mod Putting
 pub mod PuttingLaws
 pub mod Reading
+pub mod ReadingLaws
 pub mod Runs
 pub mod RunLaws
 pub mod SpacedLaws
