@@ -51,6 +51,12 @@ def first_bad(p, cs):
 # ---- a job
 
 
+def header(length, s):
+    """The bytes of a header that declares so many bytes after its first four."""
+    p, k, t, n = s
+    return struct.pack(">IBIBBI", length, 1, p, k, t, n)
+
+
 def header_checks(header):
     """17, 1 to 6, 17, 13, or 0."""
     if len(header) < HEADER or header[4] != 1 or number(header[:4]) < 11:

@@ -1,16 +1,16 @@
 #!/usr/bin/env python3
 """What calc reads and must write in its test: python3 crates/calc/expected.py writes stdin and stdout beside it.
 
-Every line is answered by the modules of expected/, in whole numbers and with no code of the crates. After what is held at first come the rows of
-docs/CALC.md, whose answers stand there: that they are the same is asserted. The others are put together by the modules rows_*.py of expected/, where
-each group says what it is for; that comment is a row too, answered by an empty line. The last line has no line end."""
+Every line is read and answered by calc_*.py in rows/ and the definitions of expected/, in whole numbers and with no code of the crates. After what is
+held at first come the rows of docs/CALC.md, whose answers stand there: that they are the same is asserted. The others are put together by rows_*.py in
+rows/, where each group says what it is for; that comment is a row too, answered by an empty line. The last line has no line end."""
 
 import os
 import sys
 
 HERE = os.path.dirname(os.path.abspath(__file__))
 ROOT = os.path.join(HERE, "..", "..")
-sys.path.insert(0, os.path.join(ROOT, "expected"))
+sys.path[:0] = [os.path.join(HERE, "rows"), os.path.join(ROOT, "expected")]
 import rows_doubles
 import rows_jobs
 import rows_labels

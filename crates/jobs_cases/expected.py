@@ -1,12 +1,11 @@
 #!/usr/bin/env python3
 """What jobs_cases must write: python3 crates/jobs_cases/expected.py > crates/jobs_cases/stdout
 
-The rows are those of the program's standard input, and their lines stand there: they come from an independent program. Each is asserted to be
-what `job` of expected/jobs.py gives, which goes by document 01's words, in whole numbers, from all bytes at once; the large jobs have their
-lines from it alone, from bytes that are made here by the same rule. A state that the program puts together by hand is judged by `sound`, clause
-by clause, and that each case lies on the side that it is here for is asserted; what take makes of a coherent one is worked out from all of its
-bytes at once. The running record is that of expected/records.py. No code of the crates is used. The inputs are written out again, so a case
-that the program lacks shows as a difference."""
+A job's line is what `job` of expected/jobs.py gives, which goes by document 01's words, in whole numbers, from all bytes at once; that it gives the
+lines of expected/jobs.txt, which come from an independent program, is asserted where the rows of calc are made. The large jobs have bytes that are made
+here by the same rule. A state that the program puts together by hand is judged by `sound`, clause by clause, and that each case lies on the side that it
+is here for is asserted; what take makes of a coherent one is worked out from all of its bytes at once. The running record is that of expected/records.py.
+No code of the crates is used. The inputs are written out again, so a case that the program lacks shows as a difference."""
 
 import os
 import struct
@@ -15,7 +14,7 @@ import sys
 HERE = os.path.dirname(os.path.abspath(__file__))
 sys.path.insert(0, os.path.join(HERE, "..", "..", "expected"))
 from document import ALL, SEVEN, check, words
-from jobs import DOCUMENT, HEADER, State, begun, finish, job, settled, sound, take
+from jobs import DOCUMENT, HEADER, State, finish, header, job, settled, sound, take
 from records import MOST, Record, above
 from words import places
 
@@ -30,55 +29,7 @@ def show_taken(state, piece, side):
     print("finish:", finish(after))
 
 
-# ---- rows
-
-
-def show_row(row):
-    digits, kind, line = [part.strip() for part in row.split("|")]
-    bs = bytes.fromhex(digits)
-    assert job(bs) == line == finish(begun(bs)), row
-    print(line)
-    if len(bs) <= 64:
-        print("cut at every byte: %d alike; " % (len(bs) + 1), end="")
-    print("byte by byte: alike")
-
-
-with open(os.path.join(HERE, "stdin")) as rows:
-    for row in rows:
-        if not row.startswith("#"):
-            show_row(row)
-
-
-# ---- headers
-
-
-def header(length, s):
-    p, k, t, n = s
-    return struct.pack(">IBIBBI", length, 1, p, k, t, n)
-
-
 SMALL = (3, 2, 5, 2)
-for length, s, line in [
-    (0, SMALL, "refused 17 0"),
-    (10, SMALL, "refused 17 0"),
-    (11, SMALL, "3 2 5 2 0 0: 0 0 0"),
-    (12, SMALL, "refused 17 0"),
-    (10, (1, 2, 5, 2), "refused 17 0"),
-    (11, (1, 2, 5, 2), "refused 1 0"),
-    (12, (1, 2, 5, 2), "refused 1 0"),
-    # one byte more in a number
-    (11 + 2**8, SMALL, "refused 17 0"),
-    (11 + 2**16, SMALL, "refused 17 0"),
-    (11 + 2**24, SMALL, "refused 13 0"),
-    (11, (3 + 2**8, 2, 5, 2), "refused 5 0"),
-    (11, (3 + 2**16, 2, 5, 2), "refused 1 0"),
-    (11, (3 + 2**24, 2, 5, 2), "refused 1 0"),
-    (11, (3, 2, 5, 2 + 2**8), "refused 5 0"),
-    (11, (3, 2, 5, 2 + 2**16), "refused 5 0"),
-    (11, (3, 2, 5, 2 + 2**24), "refused 3 0"),
-]:
-    assert job(header(length, s)) == line
-    print(words("header", length, s) + ":", line)
 
 
 # ---- 1,000,000 pairs, and one more
@@ -313,12 +264,7 @@ def show_finish(state, lent):
         print(words("finish into", lent) + ":", words("wrote", len(line)) + ":", words(line + old[len(line) :]))
 
 
-for state, line, lents in [
-    (State("header"), "refused 17 0", [0, 12, 13, 14, 126]),
-    (begun(header(19, SMALL) + bytes(ONE_PIECE)), "3 2 5 2 1 1: 2 0 1", [0, 18, 19, 20, 126]),
-    (begun(header(19, SMALL) + bytes([0, 1, 0, 3])), "refused 8 1", [11, 12, 13]),
-    (State("pairs", [], ALL), "refused 12 0", [0, 12, 13, 14]),
-]:
-    assert finish(state) == line
-    for lent in lents:
-        show_finish(state, lent)
+INCOHERENT = State("pairs", [], ALL)
+assert finish(INCOHERENT) == "refused 12 0"
+for lent in [0, 12, 13, 14]:
+    show_finish(INCOHERENT, lent)

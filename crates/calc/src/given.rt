@@ -1,71 +1,77 @@
-// The lists that a call is given: coefficients, bytes, words, one word.
+// The lists that a call is given.
 ghost use Prim.Native.Nat.{_≤_};
 ghost use lib.ListN.{length};
-use crate::copies::narrow;
-use crate::copies::narrow_bytes;
-use crate::faults::Fault;
 use crate::faults::fine;
 use crate::faults::is_fine;
 use crate::faults::many;
 use crate::faults::moved;
-use crate::limits::LIST;
 use crate::lists::read_list;
 use crate::numbers::Got;
 use crate::numbers::none;
 use crate::numbers::read_all;
+use crate::numbers::some;
 use crate::places::section;
 use crate::places::section_start;
+use settings::limits::RESIDUE_PLACES;
 
-// The list after the colon that has j others before it.
-pub fn word_list(text: &[u8], j: usize, out: &mut [u64]) -> Got
+// What a list is made of, and so the most that an element may be. A verb that takes no list is given the empty one.
+pub const NO_LIST: u8 = 0;
+
+pub const COEFFICIENTS: u8 = 1;
+
+pub const BYTES: u8 = 2;
+
+pub const WORDS: u8 = 3;
+
+// One number, and no word that says what the list is.
+pub const ONE_WORD: u8 = 4;
+
+// Coefficients, and no more than a record has residues.
+pub const RESIDUES: u8 = 5;
+
+// The list after the colon that has j others before it. None has more elements than there is room for: if one had, this would say so, and nothing would be
+// cut off.
+pub fn read_given(text: &[u8], j: usize, kind: u8, out: &mut [u64]) -> Got
     ensures { λ r. ⌜ r .count ≤ length (now (out .exit)) ⌝ }
 {
-    let got = listed(text, j, u64::MAX, out);
-    within(got, out.len())
+    if kind == NO_LIST {
+        return none(fine());
+    }
+    let got = read_kind(section(text, j), kind, out);
+    let fault = got.fault;
+    if !is_fine(fault) {
+        return none(moved(fault, section_start(text, j)));
+    }
+    if out.len() < got.count {
+        return none(many(section_start(text, j)));
+    }
+    got
 }
 
-pub fn coefficients(text: &[u8], j: usize, out: &mut [u16]) -> Got
-    ensures { λ r. ⌜ r .count ≤ length (now (out .exit)) ⌝ }
-{
-    let mut wide = [0u64; LIST];
-    let got = listed(text, j, u16::MAX as u64, &mut wide);
-    narrow(&wide, out);
-    within(got, out.len())
-}
-
-pub fn bytes(text: &[u8], j: usize, out: &mut [u8]) -> Got
-    ensures { λ r. ⌜ r .count ≤ length (now (out .exit)) ⌝ }
-{
-    let mut wide = [0u64; LIST];
-    let got = listed(text, j, u8::MAX as u64, &mut wide);
-    narrow_bytes(&wide, out);
-    within(got, out.len())
-}
-
-fn listed(text: &[u8], j: usize, most: u64, out: &mut [u64]) -> Got {
-    let got = read_list(section(text, j), most, out);
-    Got {
-        count: got.count,
-        fault: moved(got.fault, section_start(text, j)),
+fn read_kind(section: &[u8], kind: u8, out: &mut [u64]) -> Got {
+    match kind {
+        COEFFICIENTS => read_list(section, u16::MAX as u64, out),
+        BYTES => read_list(section, u8::MAX as u64, out),
+        WORDS => read_list(section, u64::MAX, out),
+        RESIDUES => at_most(RESIDUE_PLACES, read_list(section, u16::MAX as u64, out)),
+        _ => read_one(section, out),
     }
 }
 
-// No list has more elements than it was given room for. If one had, this would say so, and nothing would be cut off.
-fn within(got: Got, room: usize) -> Got
-    ensures { λ r. ⌜ r .count ≤ room ⌝ }
-{
-    if room < got.count {
+fn at_most(most: usize, got: Got) -> Got {
+    if most < got.count {
         return none(many(0));
     }
     got
 }
 
-// One number, where a list of one is wanted.
-pub fn one_word(text: &[u8], j: usize, out: &mut [u64]) -> Fault {
-    let alone = section(text, j);
-    let fault = read_all(alone, 0, alone.len(), u64::MAX, out);
-    if is_fine(fault) {
-        return fine();
+fn read_one(section: &[u8], out: &mut [u64]) -> Got {
+    if out.len() < 1 {
+        return none(many(0));
     }
-    moved(fault, section_start(text, j))
+    let fault = read_all(section, 0, section.len(), u64::MAX, &mut out[0..1]);
+    if !is_fine(fault) {
+        return none(fault);
+    }
+    some(1)
 }

@@ -1,20 +1,15 @@
-// The verbs of words and their places.
+// The verbs that are given words.
 use crate::call::Call;
 use crate::call::lent;
 use crate::call::setting_of;
 use crate::copies::widen;
-use crate::faults::is_fine;
-use crate::given::coefficients;
-use crate::given::one_word;
-use crate::given::word_list;
 use crate::limits::LIST;
 use crate::limits::MARK;
 use crate::places::least;
 use crate::shown::put_checked;
-use crate::shown::put_fault;
 use crate::shown::put_packed;
 use crate::shown::put_wrote;
-use packed::packing::pack;
+use crate::verbs;
 use settings::answers::Wrote;
 use words::check_word;
 use words::check_words;
@@ -22,24 +17,28 @@ use words::reduce;
 use words::shifted_residues;
 use words::unpack;
 
-pub fn pack_line(call: Call, text: &[u8], out: &mut [u8]) -> usize {
-    let mut xs = [0u16; LIST];
-    let list = coefficients(text, 0, &mut xs);
-    if !is_fine(list.fault) {
-        return put_fault(list.fault, out);
+pub fn answer_words(verb: u8, call: Call, xs: &[u64], out: &mut [u8]) -> usize {
+    if verb == verbs::WORDS {
+        return put_checked(check_words(setting_of(call), xs), out);
     }
-    let n = list.count;
-    put_packed(pack(setting_of(call), &xs[0..n]), out)
+    if xs.len() < 1 {
+        return 0;
+    }
+    answer_word(verb, call, xs[0], out)
 }
 
-pub fn unpack_line(call: Call, text: &[u8], out: &mut [u8]) -> usize {
-    let mut one = [0u64; 1];
-    let fault = one_word(text, 0, &mut one);
-    if !is_fine(fault) {
-        return put_fault(fault, out);
+fn answer_word(verb: u8, call: Call, word: u64, out: &mut [u8]) -> usize {
+    match verb {
+        verbs::UNPACK => unpack_line(word, call, out),
+        verbs::SHIFTED => shifted_line(word, call, out),
+        verbs::REDUCE => put_packed(reduce(setting_of(call), word), out),
+        _ => put_checked(check_word(setting_of(call), word), out),
     }
+}
+
+fn unpack_line(word: u64, call: Call, out: &mut [u8]) -> usize {
     let mut list = [MARK; LIST];
-    unpack_into(one[0], call, &mut list, out)
+    unpack_into(word, call, &mut list, out)
 }
 
 fn unpack_into(word: u64, call: Call, list: &mut [u64], out: &mut [u8]) -> usize {
@@ -48,14 +47,9 @@ fn unpack_into(word: u64, call: Call, list: &mut [u64], out: &mut [u8]) -> usize
     put_wrote(answer, call, list, out)
 }
 
-pub fn shifted_line(call: Call, text: &[u8], out: &mut [u8]) -> usize {
-    let mut one = [0u64; 1];
-    let fault = one_word(text, 0, &mut one);
-    if !is_fine(fault) {
-        return put_fault(fault, out);
-    }
+fn shifted_line(word: u64, call: Call, out: &mut [u8]) -> usize {
     let mut list = [MARK as u16; LIST];
-    shifted_into(one[0], call, &mut list, out)
+    shifted_into(word, call, &mut list, out)
 }
 
 fn shifted_into(word: u64, call: Call, list: &mut [u16], out: &mut [u8]) -> usize {
@@ -69,32 +63,4 @@ pub fn put_coefficients(answer: Wrote, call: Call, list: &[u16], out: &mut [u8])
     let mut wide = [0u64; LIST];
     widen(list, &mut wide);
     put_wrote(answer, call, &wide, out)
-}
-
-pub fn reduce_line(call: Call, text: &[u8], out: &mut [u8]) -> usize {
-    let mut one = [0u64; 1];
-    let fault = one_word(text, 0, &mut one);
-    if !is_fine(fault) {
-        return put_fault(fault, out);
-    }
-    put_packed(reduce(setting_of(call), one[0]), out)
-}
-
-pub fn word_line(call: Call, text: &[u8], out: &mut [u8]) -> usize {
-    let mut one = [0u64; 1];
-    let fault = one_word(text, 0, &mut one);
-    if !is_fine(fault) {
-        return put_fault(fault, out);
-    }
-    put_checked(check_word(setting_of(call), one[0]), out)
-}
-
-pub fn words_line(call: Call, text: &[u8], out: &mut [u8]) -> usize {
-    let mut xs = [0u64; LIST];
-    let list = word_list(text, 0, &mut xs);
-    if !is_fine(list.fault) {
-        return put_fault(list.fault, out);
-    }
-    let n = list.count;
-    put_checked(check_words(setting_of(call), &xs[0..n]), out)
 }

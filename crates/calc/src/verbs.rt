@@ -1,73 +1,80 @@
 // The verbs, and what each takes.
+use crate::given;
 use crate::places::is_word;
 
 pub const NO_VERB: u8 = 0;
 
+// Nothing but numbers is given to these.
 pub const CHOOSE: u8 = 1;
 
 pub const CHECK: u8 = 2;
 
-pub const COEFFICIENTS: u8 = 3;
+pub const BUILD: u8 = 3;
 
-pub const FIRST: u8 = 4;
+pub const HELP: u8 = 4;
 
-pub const PACK: u8 = 5;
+pub const FRESH: u8 = 5;
 
-pub const UNPACK: u8 = 6;
+pub const CLOSE: u8 = 6;
 
-pub const SHIFTED: u8 = 7;
+pub const RECORD: u8 = 7;
 
-pub const REDUCE: u8 = 8;
+pub const MAKE: u8 = 8;
 
-pub const WORD: u8 = 9;
+pub const LANE: u8 = 9;
 
-pub const WORDS: u8 = 10;
+pub const START: u8 = 10;
 
-pub const PRODUCT: u8 = 11;
+pub const FINISH: u8 = 11;
 
-pub const BUILD: u8 = 12;
+// From here on doubles are.
+pub const SET_LANE: u8 = 12;
 
-pub const BY_TABLE: u8 = 13;
+pub const LANE_REDUCE: u8 = 13;
 
-pub const PICK: u8 = 14;
+// From here on words are.
+pub const UNPACK: u8 = 14;
 
-pub const LABEL: u8 = 15;
+pub const SHIFTED: u8 = 15;
 
-pub const PASSES: u8 = 16;
+pub const REDUCE: u8 = 16;
 
-pub const HELP: u8 = 17;
+pub const WORD: u8 = 17;
 
-// From here on a verb reads or changes what calc holds.
-pub const FRESH: u8 = 18;
+pub const WORDS: u8 = 18;
 
-pub const FEED: u8 = 19;
+// From here on bytes are.
+pub const BY_TABLE: u8 = 19;
 
-pub const CLOSE: u8 = 20;
+pub const PICK: u8 = 20;
 
-pub const RECORD: u8 = 21;
+pub const TAKE: u8 = 21;
 
-pub const SET_RECORD: u8 = 22;
+// From here on coefficients are.
+pub const COEFFICIENTS: u8 = 22;
 
-pub const MAKE: u8 = 23;
+pub const FIRST: u8 = 23;
 
-pub const LANE: u8 = 24;
+pub const PACK: u8 = 24;
 
-pub const SET_LANE: u8 = 25;
+pub const PRODUCT: u8 = 25;
 
-pub const LANE_SUM: u8 = 26;
+pub const LABEL: u8 = 26;
 
-pub const LANE_REDUCE: u8 = 27;
+pub const PASSES: u8 = 27;
 
-pub const START: u8 = 28;
+pub const LANE_SUM: u8 = 28;
 
-pub const TAKE: u8 = 29;
+pub const FEED: u8 = 29;
 
-pub const FINISH: u8 = 30;
+pub const SET_RECORD: u8 = 30;
 
-// How many numbers and lists a verb takes, and whether the call is lent something to write into.
+// How many numbers a verb takes, which lists, and whether the call is lent something to write into.
 pub struct Form {
     pub numbers: usize,
     pub lists: usize,
+    pub first: u8,
+    pub second: u8,
     pub writes: bool,
 }
 
@@ -205,48 +212,46 @@ fn shown_or_set(shown: u8, set: u8, is_set: bool) -> u8 {
 
 pub fn form_of(verb: u8) -> Form {
     match verb {
-        CHOOSE => plain(3, 0),
-        CHECK => plain(4, 0),
-        COEFFICIENTS => plain(1, 2),
-        FIRST => plain(1, 1),
-        PACK => plain(4, 1),
-        UNPACK => writing(4, 1),
-        SHIFTED => writing(4, 1),
-        REDUCE => plain(4, 1),
-        WORD => plain(4, 1),
-        WORDS => plain(4, 1),
-        PRODUCT => writing(4, 2),
-        BUILD => writing(4, 0),
-        BY_TABLE => writing(4, 2),
-        PICK => plain(4, 2),
-        LABEL => writing(1, 1),
-        PASSES => plain(1, 1),
-        FRESH => plain(4, 0),
-        FEED => plain(0, 2),
-        CLOSE => writing(0, 0),
-        SET_RECORD => plain(6, 1),
-        MAKE => plain(4, 0),
-        SET_LANE => plain(4, 3),
-        LANE_SUM => plain(0, 2),
-        LANE_REDUCE => plain(0, 1),
-        TAKE => plain(0, 1),
-        FINISH => writing(0, 0),
-        _ => plain(0, 0),
+        CHOOSE => plain(3),
+        CHECK => plain(4),
+        COEFFICIENTS => listing(1, 2, given::COEFFICIENTS, given::COEFFICIENTS, false),
+        FIRST => listing(1, 1, given::COEFFICIENTS, given::NO_LIST, false),
+        PACK => listing(4, 1, given::COEFFICIENTS, given::NO_LIST, false),
+        UNPACK => listing(4, 1, given::ONE_WORD, given::NO_LIST, true),
+        SHIFTED => listing(4, 1, given::ONE_WORD, given::NO_LIST, true),
+        REDUCE => listing(4, 1, given::ONE_WORD, given::NO_LIST, false),
+        WORD => listing(4, 1, given::ONE_WORD, given::NO_LIST, false),
+        WORDS => listing(4, 1, given::WORDS, given::NO_LIST, false),
+        PRODUCT => listing(4, 2, given::COEFFICIENTS, given::COEFFICIENTS, true),
+        BUILD => listing(4, 0, given::NO_LIST, given::NO_LIST, true),
+        BY_TABLE => listing(4, 2, given::BYTES, given::WORDS, true),
+        PICK => listing(4, 2, given::BYTES, given::BYTES, false),
+        LABEL => listing(1, 1, given::COEFFICIENTS, given::NO_LIST, true),
+        PASSES => listing(1, 1, given::COEFFICIENTS, given::NO_LIST, false),
+        FRESH => plain(4),
+        FEED => listing(0, 2, given::COEFFICIENTS, given::COEFFICIENTS, false),
+        CLOSE => listing(0, 0, given::NO_LIST, given::NO_LIST, true),
+        SET_RECORD => listing(6, 1, given::RESIDUES, given::NO_LIST, false),
+        MAKE => plain(4),
+        SET_LANE => listing(4, 3, given::NO_LIST, given::NO_LIST, false),
+        LANE_SUM => listing(0, 2, given::COEFFICIENTS, given::COEFFICIENTS, false),
+        LANE_REDUCE => listing(0, 1, given::NO_LIST, given::NO_LIST, false),
+        TAKE => listing(0, 1, given::BYTES, given::NO_LIST, false),
+        FINISH => listing(0, 0, given::NO_LIST, given::NO_LIST, true),
+        _ => plain(0),
     }
 }
 
-fn plain(numbers: usize, lists: usize) -> Form {
-    Form {
-        numbers,
-        lists,
-        writes: false,
-    }
+fn plain(numbers: usize) -> Form {
+    listing(numbers, 0, given::NO_LIST, given::NO_LIST, false)
 }
 
-fn writing(numbers: usize, lists: usize) -> Form {
+fn listing(numbers: usize, lists: usize, first: u8, second: u8, writes: bool) -> Form {
     Form {
         numbers,
         lists,
-        writes: true,
+        first,
+        second,
+        writes,
     }
 }

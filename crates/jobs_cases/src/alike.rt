@@ -1,5 +1,4 @@
-// Lines and states, compared field by field.
-use crate::shown::Line;
+// States, compared field by field.
 use check::same;
 use jobs::state::HELD;
 use jobs::state::Stage;
@@ -8,15 +7,6 @@ use packed::running::Record;
 use packed::running::Sum;
 use settings::refusals::Refusal;
 use settings::setting::Setting;
-
-pub fn is_same_line(a: Line, b: Line) -> bool {
-    if a.size != b.size {
-        return false;
-    }
-    let xs = a.bytes;
-    let ys = b.bytes;
-    same(&xs, &ys)
-}
 
 pub fn is_same_state(a: State, b: State) -> bool {
     let x = a.stage;

@@ -1,13 +1,9 @@
 // The lines of the cases programs, piece by piece, on standard output. Numbers are decimal, with a space before each.
 ghost use Rattle.lines.specs.Lines.{Prints, PrintsList};
 use libc::STDOUT_FILENO;
-use packed::running::Closed;
-use packed::running::Counted;
 use packed::running::Record;
-use settings::answers::Packed;
 use settings::answers::Wrote;
 use settings::refusals::Refusal;
-use settings::setting::Checked;
 
 pub fn text(piece: &[u8])
     ensures { λ r. ⌜ PrintsList (now (piece .entry)) (now (piece .exit)) r ⌝ }
@@ -37,25 +33,12 @@ pub fn setting(p: u64, k: u64, t: u64, n: u64)
     number(n);
 }
 
-pub fn refusal(cause: Refusal)
+fn refusal(cause: Refusal)
     ensures { λ r. ⌜ Prints r ⌝ }
 {
     text(b": refused");
     number(cause.number);
     number(cause.place);
-}
-
-pub fn word(answer: Packed)
-    ensures { λ r. ⌜ Prints r ⌝ }
-{
-    match answer {
-        Packed::Word(w) => {
-            text(b": word");
-            number(w);
-        }
-        Packed::Refused(r) => refusal(r),
-    }
-    end();
 }
 
 // The lent list follows, with `bytes`, `coefficients` or `words`.
@@ -68,44 +51,6 @@ pub fn wrote(answer: Wrote)
             number(m as u64);
         }
         Wrote::Refused(r) => refusal(r),
-    }
-    text(b":");
-}
-
-// A record follows, with `record`.
-pub fn checked(answer: Checked)
-    ensures { λ r. ⌜ Prints r ⌝ }
-{
-    match answer {
-        Checked::Accepted => text(b": accepted"),
-        Checked::Refused(r) => refusal(r),
-    }
-    text(b":");
-}
-
-pub fn counted(answer: Counted)
-    ensures { λ r. ⌜ Prints r ⌝ }
-{
-    match answer {
-        Counted::Pairs(m) => {
-            text(b": took");
-            number(m as u64);
-        }
-        Counted::Refused(r) => refusal(r),
-    }
-    text(b":");
-}
-
-// The lent list follows, with `coefficients`.
-pub fn closed(answer: Closed)
-    ensures { λ r. ⌜ Prints r ⌝ }
-{
-    match answer {
-        Closed::Reductions(m) => {
-            text(b": reductions");
-            number(m);
-        }
-        Closed::Refused(r) => refusal(r),
     }
     text(b":");
 }

@@ -1,2 +1,0 @@
--- Lists for the cases programs.
-pub mod Samples
