@@ -93,6 +93,8 @@ assert job(DOCUMENT) == "3 2 5 2 3 2: 0 0 0"
 # ---- states
 
 BLANK = Record((0, 0, 0, 0))
+# a stage: 0 in the header, 1 among the pairs, 2 after a refusal; and the number and the place of this, or zeros
+HEAD, PAIRS = (0, 0, 0), (1, 0, 0)
 
 
 class State:
@@ -102,22 +104,19 @@ class State:
         self.stage, self.size, self.pairs, self.record = stage, len(held) if size is None else size, pairs, record
         self.held = list(held) + [0] * (HELD - len(held))
 
-    def listed(self):
-        return [self.stage, "size", self.size, "held", self.held, "pairs", self.pairs, "record", self.record.listed()]
-
     def shown(self):
-        return " ".join(words(x) for x in self.listed())
+        return words(self.stage, self.size, self.pairs, ":", self.held, ":", self.record.shown())
 
 
 def settled(number, place):
-    return State(refused(number, place))
+    return State((2, number, place))
 
 
 def sound(state):
     """Whether it is coherent."""
     if any(state.held[state.size :]):
         return False
-    if state.stage == "pairs":
+    if state.stage == PAIRS:
         if not coherent(state.record):
             return False
         (p, k, t, n), total = state.record.s, state.record.sum[0]
@@ -129,9 +128,9 @@ def sound(state):
         )
     if state.pairs or any(state.record.s) or state.record.sum[:2] != (0, 0) or any(state.record.sum[2]):
         return False
-    if state.stage == "header":
+    if state.stage == HEAD:
         return state.size < HEADER
-    cause, place = [int(x) for x in state.stage.split()[1:]]
+    _, cause, place = state.stage
     if cause == 8:
         return state.size == 0 and place < 2 * 8 * MOST
     return state.size == 0 and place == 0 and cause in (1, 2, 3, 4, 5, 6, 13, 17)
@@ -140,7 +139,7 @@ def sound(state):
 def begun(bs):
     """The state after the first bytes of a job."""
     if len(bs) < HEADER:
-        return State("header", bs)
+        return State(HEAD, bs)
     if header_checks(bs[:HEADER]):
         return settled(header_checks(bs[:HEADER]), 0)
     return added(Record(setting(bs)), (number(bs[:4]) - 11) // (4 * bs[9]), bs[HEADER:])
@@ -156,16 +155,16 @@ def added(record, pairs, bs):
     if len(bs) > room:
         return settled(17, 0)
     whole = pairs_in(k, coefficients(bs))
-    return State("pairs", bs[4 * k * len(whole) :], None, pairs, record.fed(whole))
+    return State(PAIRS, bs[4 * k * len(whole) :], None, pairs, record.fed(whole))
 
 
 def take(state, piece):
     if not sound(state):
         return state
     all_held = bytes(state.held[: state.size]) + bytes(piece)
-    if state.stage == "header":
+    if state.stage == HEAD:
         return begun(all_held)
-    if state.stage == "pairs":
+    if state.stage == PAIRS:
         return added(state.record, state.pairs, all_held)
     return state
 
@@ -173,10 +172,10 @@ def take(state, piece):
 def finish(state):
     if not sound(state):
         return refused(12, 0)
-    if state.stage == "header":
+    if state.stage == HEAD:
         return refused(17, 0)
-    if state.stage != "pairs":
-        return state.stage
+    if state.stage != PAIRS:
+        return refused(*state.stage[1:])
     (p, k, t, n), (total, word, residues) = state.record.s, state.record.sum
     if total < state.pairs:
         return refused(17, 0)

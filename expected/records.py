@@ -6,7 +6,7 @@ too. No code of the crates is used."""
 from collections import Counter
 from functools import cached_property
 
-from document import check, refuse, refuse_coefficients, refuse_short
+from document import check, refuse, refuse_coefficients, refuse_short, words
 from words import after, fields, packed, places
 
 MOST = 1000000
@@ -45,9 +45,9 @@ class Record:
     def fed(self, pairs):
         return Record(self.s, *self.start, self.pairs + pairs)
 
-    def listed(self):
+    def shown(self):
         total, word, residues = self.sum
-        return [*self.s, "total", total, "word", word, "residues", *residues]
+        return words(self.s, total, word, ":", residues)
 
 
 def bounds(s, r):

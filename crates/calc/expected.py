@@ -17,6 +17,7 @@ import rows_labels
 import rows_lane
 import rows_lane_held
 import rows_lane_words
+import rows_large
 import rows_lists
 import rows_places
 import rows_products
@@ -24,6 +25,7 @@ import rows_reading
 import rows_records
 import rows_running
 import rows_settings
+import rows_states
 import rows_tables
 from rows import Sheet
 
@@ -46,6 +48,7 @@ def at_first(sheet):
     sheet.say("lanesum : :", gives="refused 12 0")
     sheet.say("lanereduce : 0", gives="refused 12 0")
     sheet.say("finish", gives="wrote 13: refused 17 0")
+    sheet.say("job", gives="job 0 0 0 0 0 : %s : 0 0 0 0 0 0 : 0 0 0 0 0 0 0 0 0 0 0 0 0 0 0" % " ".join("0" * 32))
 
 
 def at_last(sheet):
@@ -69,6 +72,8 @@ def main():
         ("lanes set by hand", rows_lane_held.rows),
         ("labels", rows_labels.rows),
         ("jobs", rows_jobs.rows),
+        ("states of jobs", rows_states.rows),
+        ("large jobs", rows_large.rows),
         ("lines that are read", rows_reading.rows),
         ("lists that are read", rows_lists.rows),
         ("doubles that are read", rows_doubles.rows),

@@ -4,7 +4,7 @@ Calc. No code of the crates is used."""
 from calc_lines import LONGEST, VERBS, read
 from calc_parts import MOST, Unread
 from document import Refused, check, choose, digest, first_bad, refuse, refuse_coefficients, refuse_short, words
-from jobs import BLANK, State, finish, take
+from jobs import BLANK, HEAD, State, finish, take
 from labels import passes, write
 from lanes import Lane, double, lane_reduce, lane_sum, make
 from products import product
@@ -13,11 +13,27 @@ from tables import build, by_table, pick
 from words import check_word, check_words, pack, reduce, shifted, unpack
 
 
+class Job:
+    """The state that a job was begun with, and all bytes that were taken since. Its state is worked out from these at once, when it is asked for."""
+
+    def __init__(self, begun):
+        self.begun, self.bytes, self.known = begun, bytearray(), begun
+
+    def take(self, piece):
+        self.bytes += bytes(piece)
+        self.known = None
+
+    @property
+    def state(self):
+        self.known = self.known or take(self.begun, self.bytes)
+        return self.known
+
+
 class Calc:
     def __init__(self):
         self.record = BLANK
         self.lane = Lane((0, 0, 0, 0), 0.0, 0.0, 0.0)
-        self.job = State("header")
+        self.job = Job(State(HEAD))
 
     def answer(self, line):
         try:
@@ -111,8 +127,7 @@ class Calc:
     def do_record(self, call, lent):
         if call.lists:
             self.record = Record(call.numbers[:4], *call.numbers[4:], *call.lists)
-        total, word, residues = self.record.sum
-        return words("record", self.record.s, total, word, ":", residues)
+        return words("record", self.record.shown())
 
     # ---- the lane
 
@@ -142,17 +157,23 @@ class Calc:
     # ---- jobs
 
     def do_start(self, call, lent):
-        self.job = State("header")
+        self.job = Job(State(HEAD))
         return "started"
 
     def do_take(self, call, lent):
-        self.job = take(self.job, *call.lists)
+        self.job.take(*call.lists)
         return "taken"
 
     def do_finish(self, call, lent):
-        line = finish(self.job)
+        line = finish(self.job.state)
         refuse_short(lent, len(line) + 1)
         return words("wrote", len(line) + 1), list(line.encode() + b"\n"), line
+
+    def do_job(self, call, lent):
+        if call.lists:
+            stage, number, place, size, pairs = call.numbers
+            self.job = Job(State((stage, 0, 0) if stage < 2 else (2, number, place), *call.lists, size, pairs, self.record))
+        return words("job", self.job.state.shown())
 
     def do_help(self, call, lent):
         return "verbs: " + " ".join(VERBS)

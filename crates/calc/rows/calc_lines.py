@@ -1,7 +1,7 @@
 """How calc reads a line, by docs/CALC.md: its bytes to a verb, its numbers, its options and its lists, or to what calc says of a line that it can't
 read. What is wrong is looked for in the order of the line: verb, numbers, options, how many lists, each list. No code of the crates is used."""
 
-from calc_parts import BYTES, COEFFICIENTS, LETTER, MOST, SOLID, WORDS, Unread, double, exactly, first, numbers, residues, what, word, word_at
+from calc_parts import BYTES, COEFFICIENTS, LETTER, MOST, SOLID, WORDS, Unread, double, exactly, first, held, numbers, residues, what, word, word_at
 
 LONGEST = 65536
 
@@ -34,10 +34,11 @@ VERBS = {
     "start": (0, [], False),
     "take": (0, [BYTES], False),
     "finish": (0, [], True),
+    "job": (0, [], False),
     "help": (0, [], False),
 }
 # what is held is set where the line has a colon
-SET = {"record": (6, [residues], False), "lane": (4, [double, double, double], False)}
+SET = {"record": (6, [residues], False), "lane": (4, [double, double, double], False), "job": (5, [held], False)}
 
 
 class Call:

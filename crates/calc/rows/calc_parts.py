@@ -3,6 +3,7 @@ searched for the first thing in it that is wrong, by regular expressions over it
 
 import re
 import sys
+from functools import lru_cache
 
 from document import ALL, Refused
 from lanes import nan, of_bits, over, whole
@@ -77,11 +78,16 @@ def powers(most, place, m, a, b, c, d):
         what(place)
     if m > MOST:
         say("too many", place)
-    # each by a power of its own, and not from the one before
-    xs = [a * pow(b, i, c) % c % d for i in range(m)]
+    xs = powers_of(m, a, b, c, d)
     if max(xs, default=0) > most:
         say("too large", place)
-    return xs
+    return list(xs)
+
+
+@lru_cache
+def powers_of(m, a, b, c, d):
+    """Each by a power of its own, and not from the one before."""
+    return [a * pow(b, i, c) % c % d for i in range(m)]
 
 
 def built(most, place, *s):
@@ -132,11 +138,16 @@ def changed(most, xs, text, j, f):
     return xs
 
 
-def residues(text, s, f):
-    xs = COEFFICIENTS(text, s, f)
-    if len(xs) > 15:
-        say("too many", s)
-    return xs
+def short(read, room):
+    """Such a list of at most so many."""
+
+    def read_short(text, s, f):
+        xs = read(text, s, f)
+        if len(xs) > room:
+            say("too many", s)
+        return xs
+
+    return read_short
 
 
 def word(text, s, f):
@@ -175,3 +186,4 @@ def unsigned(text, b, f):
 
 
 COEFFICIENTS, BYTES, WORDS = list_of(65535), list_of(255), list_of(ALL)
+residues, held = short(COEFFICIENTS, 15), short(BYTES, 32)

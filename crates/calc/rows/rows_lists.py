@@ -63,7 +63,10 @@ COEFFICIENTS = [
     ("product 65536 1 32 1 : ", " : 1"), ("product 65536 1 32 1 : 1 : ", ""), ("feed : ", " : 1"), ("feed : 1 : ", ""),
     ("record 65536 1 32 1 0 0 : ", ""), ("lanesum : ", " : 1"), ("lanesum : 1 : ", ""), ("label 0 : ", ""), ("passes 0 : ", ""),
 ]
-BYTES = [("bytable 3 2 4 1 : ", " : 1"), ("pick 3 2 4 1 : ", " : built 3 2 4 1"), ("pick 3 2 4 1 : built 3 2 4 1 : ", ""), ("take : ", "")]
+BYTES = [
+    ("bytable 3 2 4 1 : ", " : 1"), ("pick 3 2 4 1 : ", " : built 3 2 4 1"), ("pick 3 2 4 1 : built 3 2 4 1 : ", ""), ("take : ", ""),
+    ("job 0 0 0 0 0 : ", ""),
+]
 WORDS = ["words 3 2 4 1 : ", "bytable 3 2 4 1 : built 3 2 4 1 : "]
 
 

@@ -1,6 +1,6 @@
 """Rows of calc's test: how a line is read: verb, numbers, options and how many lists. What each gives is written out."""
 
-from calc_lines import VERBS
+from calc_lines import SET, VERBS
 from document import ALL, words
 
 HUGE = "1234567890123456789012345678901234567890"
@@ -92,7 +92,7 @@ NOT_WRITE = [
     "choose 3 4 31 @", "check 3 2 5 2 @", "coefficients 3 @: 1 : 2", "first 3 @: 1", "pack 3 2 4 1 @: 1 2", "reduce 3 2 4 1 @: 1122",
     "word 3 2 4 1 @: 1", "words 3 2 4 1 @: 1", "pick 3 2 4 1 @: :", "fresh 3 2 5 2 @", "feed @: :", "record @", "record 3 2 5 2 0 0 @: 1",
     "make 3 2 5 2 @", "lane @", "lane 3 2 5 2 @: 3 : 32 : 1 over 3", "lanesum @: :", "lanereduce @: 0", "passes 0 @: 1 2 3", "start @", "take @: 1",
-    "help @",
+    "job @", "job 0 0 0 0 0 @: 1", "help @",
 ]
 
 
@@ -124,9 +124,9 @@ def sections(sheet):
     for verb, (count, kinds, options) in VERBS.items():
         for extra in ([-1] if kinds else []) + [1]:
             line = words(verb, [3] * count, [": 1"] * (len(kinds) + extra))
-            if verb in ("record", "lane") and extra > 0:
+            if verb in SET and extra > 0:
                 # with a colon these want numbers
-                line = words(verb, [3] * {"record": 6, "lane": 4}[verb], ": 1" if verb == "record" else ": 1 : 1 : 1", ": 1")
+                line = words(verb, [3] * SET[verb][0], [": 1"] * (len(SET[verb][1]) + 1))
             sheet.type(line, gives="what? %d" % (len(line) if extra < 0 else len(line) - 3))
     for line, gives in [
         # how many there are is looked at after the options, and before what stands in them

@@ -1,8 +1,12 @@
 // The answer to a line.
 use crate::call::Call;
 use crate::call::read_call;
-use crate::faults::is_fine;
+use crate::faults::FINE;
 use crate::faults::what;
+use crate::given::BYTES;
+use crate::given::COEFFICIENTS;
+use crate::given::DOUBLE;
+use crate::given::NO_LIST;
 use crate::given::read_given;
 use crate::held::Held;
 use crate::held::Step;
@@ -40,14 +44,15 @@ pub fn answer(held: Held, line: &[u8], out: &mut [u8]) -> Step {
 fn answer_verb(verb: u8, held: Held, text: &[u8], verb_end: usize, out: &mut [u8]) -> Step {
     let form = verbs::form_of(verb);
     let call = read_call(text, verb_end, form);
-    if !is_fine(call.fault) {
-        let size = put_fault(call.fault, out);
+    let fault = call.fault;
+    if fault.kind != FINE {
+        let size = put_fault(fault, out);
         return Step { held, size };
     }
-    if verb < verbs::SET_LANE {
+    if form.first == NO_LIST {
         return answer_numbers(verb, held, call, out);
     }
-    if verb < verbs::UNPACK {
+    if form.first == DOUBLE {
         return answer_doubles(verb, held, call, text, out);
     }
     answer_lists(verb, held, call, form, text, out)
@@ -56,27 +61,38 @@ fn answer_verb(verb: u8, held: Held, text: &[u8], verb_end: usize, out: &mut [u8
 fn answer_lists(verb: u8, held: Held, call: Call, form: Form, text: &[u8], out: &mut [u8]) -> Step {
     let mut xs = [0u64; LIST];
     let first = read_given(text, 0, form.first, &mut xs);
-    if !is_fine(first.fault) {
-        let size = put_fault(first.fault, out);
+    let fault = first.fault;
+    if fault.kind != FINE {
+        let size = put_fault(fault, out);
         return Step { held, size };
     }
     let mut ys = [0u64; LIST];
     let second = read_given(text, 1, form.second, &mut ys);
-    if !is_fine(second.fault) {
-        let size = put_fault(second.fault, out);
+    let fault = second.fault;
+    if fault.kind != FINE {
+        let size = put_fault(fault, out);
         return Step { held, size };
     }
     let m = first.count;
     let n = second.count;
-    answer_given(verb, held, call, &xs[0..m], &ys[0..n], out)
+    answer_given(verb, form.first, held, call, &xs[0..m], &ys[0..n], out)
 }
 
-fn answer_given(verb: u8, held: Held, call: Call, xs: &[u64], ys: &[u64], out: &mut [u8]) -> Step {
-    if verb < verbs::BY_TABLE {
+// By what the first list is made of.
+fn answer_given(
+    verb: u8,
+    kind: u8,
+    held: Held,
+    call: Call,
+    xs: &[u64],
+    ys: &[u64],
+    out: &mut [u8],
+) -> Step {
+    if kind < BYTES {
         let size = answer_words(verb, call, xs, out);
         return Step { held, size };
     }
-    if verb < verbs::COEFFICIENTS {
+    if kind < COEFFICIENTS {
         return answer_bytes(verb, held, call, xs, ys, out);
     }
     answer_coefficients(verb, held, call, xs, ys, out)

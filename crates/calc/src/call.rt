@@ -1,8 +1,7 @@
 // What a line says before its lists: the numbers after the verb, what is lent, and whether a digest is asked for.
-ghost use Prim.Native.Nat.{_≤_};
+use crate::faults::FINE;
 use crate::faults::Fault;
-use crate::faults::fine;
-use crate::faults::is_fine;
+use crate::faults::NO_FAULT;
 use crate::faults::what;
 use crate::limits::LIST;
 use crate::numbers::read_all;
@@ -19,15 +18,18 @@ use settings::setting::Setting;
 // The most numbers that a verb takes.
 const MOST_NUMBERS: usize = 6;
 
+// The first four numbers are a setting, where the verb takes one.
 pub struct Call {
     pub numbers: [u64; MOST_NUMBERS],
+    pub setting: Setting,
     pub options: Options,
     pub fault: Fault,
 }
 
+// How many elements are lent, and whether the line says so; and whether a digest is asked for.
 pub struct Options {
     pub is_lent: bool,
-    pub size: u64,
+    pub size: usize,
     pub is_digest: bool,
     pub fault: Fault,
 }
@@ -40,15 +42,22 @@ pub fn read_call(text: &[u8], verb_end: usize, form: Form) -> Call {
     let read = read_all(head, verb_end, end, u64::MAX, &mut numbers[0..size]);
     let options = read_options(head, end, form.writes);
     let fault = first_of(first_of(read, options.fault), lists_fault(text, form.lists));
+    let setting = Setting {
+        p: numbers[0],
+        k: numbers[1],
+        t: numbers[2],
+        n: numbers[3],
+    };
     Call {
         numbers,
+        setting,
         options,
         fault,
     }
 }
 
 fn first_of(a: Fault, b: Fault) -> Fault {
-    if is_fine(a) {
+    if a.kind == FINE {
         return b;
     }
     a
@@ -61,18 +70,18 @@ fn lists_fault(text: &[u8], lists: usize) -> Fault {
         return what(more);
     }
     if lists == 0 {
-        return fine();
+        return NO_FAULT;
     }
     if text.len() <= colon(text, lists - 1) {
         return what(text.len());
     }
-    fine()
+    NO_FAULT
 }
 
 // The words at the head's end: `into` and a number, and `digest`.
 fn read_options(head: &[u8], start: usize, writes: bool) -> Options {
     if head.len() <= start {
-        return no_options(fine());
+        return no_options(NO_FAULT);
     }
     if !writes {
         return no_options(what(start));
@@ -80,7 +89,7 @@ fn read_options(head: &[u8], start: usize, writes: bool) -> Options {
     if is_word(head, start, b"into") {
         return read_lent(head, start);
     }
-    options_digest(head, start, no_options(fine()))
+    options_digest(head, start, no_options(NO_FAULT))
 }
 
 fn read_lent(head: &[u8], start: usize) -> Options {
@@ -88,14 +97,14 @@ fn read_lent(head: &[u8], start: usize) -> Options {
     let end = letter(head, numbers);
     let mut size = [0u64; 1];
     let fault = read_all(head, numbers, end, LIST as u64, &mut size);
-    if !is_fine(fault) {
+    if fault.kind != FINE {
         return no_options(fault);
     }
     let lent = Options {
         is_lent: true,
-        size: size[0],
+        size: size[0] as usize,
         is_digest: false,
-        fault: fine(),
+        fault: NO_FAULT,
     };
     if head.len() <= end {
         return lent;
@@ -115,36 +124,15 @@ fn options_digest(head: &[u8], start: usize, so_far: Options) -> Options {
         is_lent: so_far.is_lent,
         size: so_far.size,
         is_digest: true,
-        fault: fine(),
+        fault: NO_FAULT,
     }
 }
 
 fn no_options(fault: Fault) -> Options {
     Options {
         is_lent: false,
-        size: LIST as u64,
+        size: LIST,
         is_digest: false,
         fault,
     }
-}
-
-pub fn setting_of(call: Call) -> Setting {
-    let numbers = call.numbers;
-    Setting {
-        p: numbers[0],
-        k: numbers[1],
-        t: numbers[2],
-        n: numbers[3],
-    }
-}
-
-// How many elements are lent.
-pub fn lent(call: Call) -> usize
-    ensures { λ r. ⌜ r ≤ 16384 ⌝ }
-{
-    let options = call.options;
-    if LIST as u64 <= options.size {
-        return LIST;
-    }
-    options.size as usize
 }

@@ -17,12 +17,10 @@ pub struct Fault {
     pub place: usize,
 }
 
-pub fn fine() -> Fault {
-    Fault {
-        kind: FINE,
-        place: 0,
-    }
-}
+pub const NO_FAULT: Fault = Fault {
+    kind: FINE,
+    place: 0,
+};
 
 pub fn what(place: usize) -> Fault {
     Fault { kind: WHAT, place }
@@ -32,18 +30,10 @@ pub fn large(place: usize) -> Fault {
     Fault { kind: LARGE, place }
 }
 
-pub fn many(place: usize) -> Fault {
-    Fault { kind: MANY, place }
-}
-
 // The same fault in a longer text, in which what was read starts later.
 pub fn moved(fault: Fault, start: usize) -> Fault {
     Fault {
         kind: fault.kind,
         place: later(start, fault.place),
     }
-}
-
-pub fn is_fine(fault: Fault) -> bool {
-    fault.kind == FINE
 }

@@ -3,9 +3,6 @@
 // The most elements of a list, and of what is lent.
 pub const LIST: usize = 16384;
 
-// The most bytes of a line.
-pub const LINE: usize = 65536;
-
 // The most bytes of an answer.
 pub const ANSWER: usize = 65536;
 

@@ -1,9 +1,9 @@
 // The lists of a line. A list is typed out, or a word says what it is; `but` changes elements of either.
 use crate::copies::store;
+use crate::faults::FINE;
 use crate::faults::Fault;
 use crate::faults::MANY;
-use crate::faults::fine;
-use crate::faults::is_fine;
+use crate::faults::NO_FAULT;
 use crate::faults::large;
 use crate::faults::what;
 use crate::made::made;
@@ -25,7 +25,7 @@ const CHANGES: usize = 16;
 pub fn read_list(section: &[u8], most: u64, out: &mut [u64]) -> Got {
     let start = filled(section, 0);
     if section.len() <= start {
-        return none(fine());
+        return none(NO_FAULT);
     }
     if kind_of(section[start]) == LETTER {
         let end = letter(section, word_end(section, start));
@@ -39,14 +39,15 @@ pub fn read_list(section: &[u8], most: u64, out: &mut [u64]) -> Got {
 
 // The list with what the word at `start` changes, where there is one.
 fn changed(section: &[u8], start: usize, got: Got, most: u64, out: &mut [u64]) -> Got {
-    if !is_fine(got.fault) {
+    let read = got.fault;
+    if read.kind != FINE {
         return got;
     }
     if section.len() <= start {
         return got;
     }
     let fault = change(section, start, got.count, most, out);
-    if !is_fine(fault) {
+    if fault.kind != FINE {
         return none(fault);
     }
     got
@@ -64,7 +65,7 @@ fn change(section: &[u8], start: usize, count: usize, most: u64, out: &mut [u64]
     if fault.kind == MANY {
         return what(fault.place);
     }
-    if !is_fine(fault) {
+    if fault.kind != FINE {
         return fault;
     }
     if given.count % 2 == 1 {
@@ -99,5 +100,5 @@ fn change_each(
         store(element, place, out);
         i += 1;
     }
-    fine()
+    NO_FAULT
 }

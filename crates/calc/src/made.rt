@@ -2,15 +2,15 @@
 ghost use Prim.Native.Nat.{_≤_, _<_};
 use crate::copies::fill;
 use crate::copies::widen_bytes;
-use crate::faults::is_fine;
-use crate::faults::large;
-use crate::faults::many;
-use crate::faults::what;
+use crate::faults::FINE;
 use crate::limits::LIST;
 use crate::numbers::Got;
+use crate::numbers::no_call;
 use crate::numbers::none;
 use crate::numbers::read_all;
 use crate::numbers::some;
+use crate::numbers::too_large;
+use crate::numbers::too_many;
 use crate::places::is_word;
 use crate::places::word_end;
 use settings::answers::Wrote;
@@ -40,23 +40,23 @@ pub fn made(section: &[u8], start: usize, end: usize, most: u64, out: &mut [u64]
     if is_word(section, start, b"built") {
         return built(section, start, end, out);
     }
-    none(what(start))
+    no_call(start)
 }
 
 // all M X
 fn all(section: &[u8], start: usize, end: usize, most: u64, out: &mut [u64]) -> Got {
     let mut given = [0u64; 2];
     let fault = read_all(section, word_end(section, start), end, u64::MAX, &mut given);
-    if !is_fine(fault) {
+    if fault.kind != FINE {
         return none(fault);
     }
     let count = given[0];
     let element = given[1];
     if (out.len() as u64) < count {
-        return none(many(start));
+        return too_many(start);
     }
     if most < element {
-        return none(large(start));
+        return too_large(start);
     }
     let size = count as usize;
     fill(element, &mut out[0..size]);
@@ -67,7 +67,7 @@ fn all(section: &[u8], start: usize, end: usize, most: u64, out: &mut [u64]) -> 
 fn powers(section: &[u8], start: usize, end: usize, most: u64, out: &mut [u64]) -> Got {
     let mut given = [0u64; 5];
     let fault = read_all(section, word_end(section, start), end, u64::MAX, &mut given);
-    if !is_fine(fault) {
+    if fault.kind != FINE {
         return none(fault);
     }
     powers_of(
@@ -87,16 +87,16 @@ fn powers(section: &[u8], start: usize, end: usize, most: u64, out: &mut [u64]) 
 fn powers_of(rule: Rule, start: usize, most: u64, out: &mut [u64]) -> Got {
     let modulus = rule.modulus;
     if modulus == 0 {
-        return none(what(start));
+        return no_call(start);
     }
     if LARGEST_MODULUS < modulus {
-        return none(what(start));
+        return no_call(start);
     }
     if rule.below == 0 {
-        return none(what(start));
+        return no_call(start);
     }
     if (out.len() as u64) < rule.count {
-        return none(many(start));
+        return too_many(start);
     }
     let size = rule.count as usize;
     if fill_powers(
@@ -109,7 +109,7 @@ fn powers_of(rule: Rule, start: usize, most: u64, out: &mut [u64]) -> Got {
     ) {
         return some(size);
     }
-    none(large(start))
+    too_large(start)
 }
 
 // Whether no element is above most.
@@ -134,7 +134,7 @@ fn fill_powers(first: u64, ratio: u64, modulus: u64, below: u64, most: u64, out:
 fn built(section: &[u8], start: usize, end: usize, out: &mut [u64]) -> Got {
     let mut given = [0u64; 4];
     let fault = read_all(section, word_end(section, start), end, u64::MAX, &mut given);
-    if !is_fine(fault) {
+    if fault.kind != FINE {
         return none(fault);
     }
     let mut table = [0u8; LIST];
@@ -148,7 +148,7 @@ fn built(section: &[u8], start: usize, end: usize, out: &mut [u64]) -> Got {
         &mut table,
     );
     let Wrote::Count(size) = answer else {
-        return none(what(start));
+        return no_call(start);
     };
     widen_bytes(&table, out);
     some(size)

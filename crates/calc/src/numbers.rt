@@ -1,11 +1,11 @@
 // Numbers of a section of the line: how many there are, or what is wrong.
 ghost use mathlib.Core.Path.{_≡_};
+use crate::faults::FINE;
 use crate::faults::Fault;
+use crate::faults::LARGE;
 use crate::faults::MANY;
-use crate::faults::fine;
-use crate::faults::is_fine;
-use crate::faults::large;
-use crate::faults::many;
+use crate::faults::NO_FAULT;
+use crate::faults::WHAT;
 use crate::faults::what;
 use crate::places::later;
 use crate::places::part;
@@ -27,7 +27,32 @@ pub fn none(fault: Fault) -> Got
 pub fn some(count: usize) -> Got {
     Got {
         count,
-        fault: fine(),
+        fault: NO_FAULT,
+    }
+}
+
+// No call: what stands at this place is none of what may stand there, or it is missing.
+pub fn no_call(place: usize) -> Got {
+    Got {
+        count: 0,
+        fault: Fault { kind: WHAT, place },
+    }
+}
+
+// A number that is too large, and one that has no room.
+pub fn too_large(place: usize) -> Got {
+    Got {
+        count: 0,
+        fault: Fault { kind: LARGE, place },
+    }
+}
+
+pub fn too_many(place: usize) -> Got
+    ensures { λ r. ⌜ r .count ≡ 0 ⌝ }
+{
+    Got {
+        count: 0,
+        fault: Fault { kind: MANY, place },
     }
 }
 
@@ -36,9 +61,9 @@ pub fn read(section: &[u8], from: usize, to: usize, most: u64, out: &mut [u64]) 
     let read = read_numbers(part(section, from, to), most, out);
     match read {
         Numbers::Count(n) => some(n),
-        Numbers::Stray(i) => none(what(later(from, i))),
-        Numbers::Large(i) => none(large(later(from, i))),
-        Numbers::Many(i) => none(many(later(from, i))),
+        Numbers::Stray(i) => no_call(later(from, i)),
+        Numbers::Large(i) => too_large(later(from, i)),
+        Numbers::Many(i) => too_many(later(from, i)),
     }
 }
 
@@ -49,11 +74,11 @@ pub fn read_all(section: &[u8], from: usize, to: usize, most: u64, out: &mut [u6
     if fault.kind == MANY {
         return what(fault.place);
     }
-    if !is_fine(fault) {
+    if fault.kind != FINE {
         return fault;
     }
     if got.count < out.len() {
         return what(to);
     }
-    fine()
+    NO_FAULT
 }

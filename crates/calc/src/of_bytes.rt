@@ -1,7 +1,5 @@
-// The verbs that are given bytes: those of tables, and `take`.
+// The verbs that are given bytes: those of tables, and of a job.
 use crate::call::Call;
-use crate::call::lent;
-use crate::call::setting_of;
 use crate::copies::narrow_bytes;
 use crate::copies::widen_bytes;
 use crate::held::Held;
@@ -13,9 +11,15 @@ use crate::places::later;
 use crate::places::least;
 use crate::places::part;
 use crate::shown::put_wrote;
+use crate::shown_records::job_line;
 use crate::verbs;
+use jobs::state::HELD;
+use jobs::state::Stage;
+use jobs::state::State;
 use jobs::state::take;
+use packed::running::Record;
 use settings::answers::Wrote;
+use settings::refusals::Refusal;
 use settings::setting::Setting;
 use tables::pick;
 use tables::reduce_by_table;
@@ -41,8 +45,34 @@ pub fn answer_bytes(
         let job = held.job;
         return hold_job(held, take(job, &first[0..m]), put(b"taken", out, 0));
     }
+    if verb == verbs::SET_JOB {
+        let set = job_of(call, held.running, xs);
+        return hold_job(held, set, job_line(set, out));
+    }
     let size = table_line(verb, call, &first[0..m], ys, out);
     Step { held, size }
+}
+
+// The state with the held record in it. Bytes that are not given are zeros.
+fn job_of(call: Call, running: Record, xs: &[u64]) -> State {
+    let numbers = call.numbers;
+    let mut held = [0u8; HELD];
+    narrow_bytes(xs, &mut held);
+    State {
+        stage: stage_of(numbers[0], numbers[1], numbers[2]),
+        held,
+        size: numbers[3] as usize,
+        pairs: numbers[4],
+        running,
+    }
+}
+
+fn stage_of(stage: u64, number: u64, place: u64) -> Stage {
+    match stage {
+        0 => Stage::Header,
+        1 => Stage::Pairs,
+        _ => Stage::Refused(Refusal { number, place }),
+    }
 }
 
 fn table_line(verb: u8, call: Call, first: &[u8], ys: &[u64], out: &mut [u8]) -> usize {
@@ -53,12 +83,13 @@ fn table_line(verb: u8, call: Call, first: &[u8], ys: &[u64], out: &mut [u8]) ->
     let mut second = [0u8; LIST];
     narrow_bytes(ys, &mut second);
     let n = least(ys.len(), LIST);
-    picked_line(setting_of(call), first, &second[0..n], out)
+    picked_line(call.setting, first, &second[0..n], out)
 }
 
 fn by_table_into(table: &[u8], xs: &[u64], call: Call, list: &mut [u64], out: &mut [u8]) -> usize {
-    let n = least(lent(call), list.len());
-    let answer = reduce_by_table(setting_of(call), table, xs, &mut list[0..n]);
+    let options = call.options;
+    let n = least(options.size, list.len());
+    let answer = reduce_by_table(call.setting, table, xs, &mut list[0..n]);
     put_wrote(answer, call, list, out)
 }
 

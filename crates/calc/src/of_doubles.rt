@@ -1,7 +1,6 @@
 // The verbs that are given doubles, and the others of the lane.
 use crate::call::Call;
-use crate::call::setting_of;
-use crate::faults::is_fine;
+use crate::faults::FINE;
 use crate::held::Held;
 use crate::held::Step;
 use crate::held::hold_lane;
@@ -19,8 +18,9 @@ use texts::putting::put_refusal;
 
 pub fn answer_doubles(verb: u8, held: Held, call: Call, text: &[u8], out: &mut [u8]) -> Step {
     let first = double_at(text, 0);
-    if !is_fine(first.fault) {
-        let size = put_fault(first.fault, out);
+    let fault = first.fault;
+    if fault.kind != FINE {
+        let size = put_fault(fault, out);
         return Step { held, size };
     }
     if verb == verbs::LANE_REDUCE {
@@ -32,17 +32,20 @@ pub fn answer_doubles(verb: u8, held: Held, call: Call, text: &[u8], out: &mut [
 
 fn set_lane_line(held: Held, call: Call, text: &[u8], p: f64, out: &mut [u8]) -> Step {
     let q = double_at(text, 1);
-    if !is_fine(q.fault) {
-        let size = put_fault(q.fault, out);
+    let fault = q.fault;
+    if fault.kind != FINE {
+        let size = put_fault(fault, out);
         return Step { held, size };
     }
     let inverse = double_at(text, 2);
-    if !is_fine(inverse.fault) {
-        let size = put_fault(inverse.fault, out);
+    let fault = inverse.fault;
+    if fault.kind != FINE {
+        let size = put_fault(fault, out);
         return Step { held, size };
     }
+    let setting = call.setting;
     let set = Lane {
-        setting: setting_of(call),
+        setting,
         p,
         q: q.value,
         inverse: inverse.value,
@@ -52,7 +55,7 @@ fn set_lane_line(held: Held, call: Call, text: &[u8], p: f64, out: &mut [u8]) ->
 
 // The held record stays where the setting is refused.
 pub fn make_line(held: Held, call: Call, out: &mut [u8]) -> Step {
-    let made = make(setting_of(call));
+    let made = make(call.setting);
     match made {
         Made::Lane(lane) => hold_lane(held, lane, lane_line(lane, out)),
         Made::Refused(r) => Step {

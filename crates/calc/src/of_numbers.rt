@@ -1,7 +1,5 @@
 // The verbs that are given numbers alone.
 use crate::call::Call;
-use crate::call::lent;
-use crate::call::setting_of;
 use crate::copies::widen;
 use crate::copies::widen_bytes;
 use crate::held::Held;
@@ -19,6 +17,7 @@ use crate::shown::put_kept;
 use crate::shown::put_named;
 use crate::shown::put_unwritten;
 use crate::shown::put_written;
+use crate::shown_records::job_line;
 use crate::shown_records::lane_line;
 use crate::shown_records::record_line;
 use crate::verbs;
@@ -51,10 +50,11 @@ pub fn answer_numbers(verb: u8, held: Held, call: Call, out: &mut [u8]) -> Step 
 fn reading_line(verb: u8, held: Held, call: Call, out: &mut [u8]) -> Step {
     let size = match verb {
         verbs::CHOOSE => choose_line(call, out),
-        verbs::CHECK => put_checked(check(setting_of(call)), out),
+        verbs::CHECK => put_checked(check(call.setting), out),
         verbs::RECORD => record_line(held.running, out),
         verbs::LANE => lane_line(held.lane, out),
-        verbs::HELP => help_line(out),
+        verbs::JOB => job_line(held.job, out),
+        verbs::HELP => verbs::help_line(out),
         _ => writing_line(verb, held, call, out),
     };
     Step { held, size }
@@ -77,26 +77,8 @@ fn unchosen_line(chosen: Chosen, out: &mut [u8]) -> usize {
     0
 }
 
-fn help_line(out: &mut [u8]) -> usize {
-    let at = put(
-        b"verbs: choose check coefficients first pack unpack shifted reduce word words",
-        out,
-        0,
-    );
-    let at = put(
-        b" product build bytable pick fresh feed close record",
-        out,
-        at,
-    );
-    put(
-        b" make lane lanesum lanereduce label passes start take finish help",
-        out,
-        at,
-    )
-}
-
 fn fresh_line(held: Held, call: Call, out: &mut [u8]) -> Step {
-    let begun = fresh(setting_of(call));
+    let begun = fresh(call.setting);
     let answer = begun.answer;
     let running = begun.running;
     hold_running(held, running, put_checked(answer, out))
@@ -116,13 +98,15 @@ fn writing_line(verb: u8, held: Held, call: Call, out: &mut [u8]) -> usize {
 }
 
 fn build_into(call: Call, list: &mut [u8], out: &mut [u8]) -> usize {
-    let n = least(lent(call), list.len());
-    let answer = build(setting_of(call), &mut list[0..n]);
+    let options = call.options;
+    let n = least(options.size, list.len());
+    let answer = build(call.setting, &mut list[0..n]);
     put_bytes(answer, call, list, out)
 }
 
 fn close_into(running: Record, call: Call, list: &mut [u16], out: &mut [u8]) -> usize {
-    let n = least(lent(call), list.len());
+    let options = call.options;
+    let n = least(options.size, list.len());
     let answer = close(running, &mut list[0..n]);
     let mut wide = [0u64; LIST];
     widen(list, &mut wide);
@@ -151,9 +135,9 @@ fn places(s: Setting) -> usize {
 }
 
 fn finish_into(job: State, call: Call, line: &mut [u8], out: &mut [u8]) -> usize {
-    let n = least(lent(call), line.len());
-    let answer = finish(job, &mut line[0..n]);
     let options = call.options;
+    let n = least(options.size, line.len());
+    let answer = finish(job, &mut line[0..n]);
     if options.is_digest {
         return put_bytes(answer, call, line, out);
     }

@@ -1,7 +1,5 @@
 // The verbs that are given coefficients.
 use crate::call::Call;
-use crate::call::lent;
-use crate::call::setting_of;
 use crate::copies::narrow;
 use crate::held::Held;
 use crate::held::Step;
@@ -53,10 +51,11 @@ pub fn answer_coefficients(
 // Residues that are not given are zeros.
 fn record_of(call: Call, xs: &[u64]) -> Record {
     let numbers = call.numbers;
+    let setting = call.setting;
     let mut residues = [0u16; RESIDUE_PLACES];
     narrow(xs, &mut residues);
     Record {
-        setting: setting_of(call),
+        setting,
         sum: Sum {
             total: numbers[4],
             word: numbers[5],
@@ -89,7 +88,7 @@ fn reading_line(verb: u8, held: Held, call: Call, xs: &[u16], ys: &[u16], out: &
     match verb {
         verbs::COEFFICIENTS => put_checked(check_coefficients(numbers[0], xs, ys), out),
         verbs::FIRST => put_named(b"index", first_bad(numbers[0], xs) as u64, out),
-        verbs::PACK => put_packed(pack(setting_of(call), xs), out),
+        verbs::PACK => put_packed(pack(call.setting, xs), out),
         verbs::PASSES => put_passing(labels::check(numbers[0], xs), out),
         verbs::LANE_SUM => put_lane_answer(lane::sum(held.lane, xs, ys), out),
         _ => writing_line(verb, call, xs, ys, out),
@@ -114,14 +113,16 @@ fn writing_line(verb: u8, call: Call, xs: &[u16], ys: &[u16], out: &mut [u8]) ->
 }
 
 fn product_into(xs: &[u16], ys: &[u16], call: Call, list: &mut [u16], out: &mut [u8]) -> usize {
-    let n = least(lent(call), list.len());
-    let answer = product(setting_of(call), xs, ys, &mut list[0..n]);
+    let options = call.options;
+    let n = least(options.size, list.len());
+    let answer = product(call.setting, xs, ys, &mut list[0..n]);
     put_coefficients(answer, call, list, out)
 }
 
 fn label_into(content: &[u16], call: Call, list: &mut [u16], out: &mut [u8]) -> usize {
     let numbers = call.numbers;
-    let n = least(lent(call), list.len());
+    let options = call.options;
+    let n = least(options.size, list.len());
     let answer = labels::write(numbers[0], content, &mut list[0..n]);
     put_coefficients(answer, call, list, out)
 }

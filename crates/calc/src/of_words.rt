@@ -1,7 +1,5 @@
 // The verbs that are given words.
 use crate::call::Call;
-use crate::call::lent;
-use crate::call::setting_of;
 use crate::copies::widen;
 use crate::limits::LIST;
 use crate::limits::MARK;
@@ -19,7 +17,7 @@ use words::unpack;
 
 pub fn answer_words(verb: u8, call: Call, xs: &[u64], out: &mut [u8]) -> usize {
     if verb == verbs::WORDS {
-        return put_checked(check_words(setting_of(call), xs), out);
+        return put_checked(check_words(call.setting, xs), out);
     }
     if xs.len() < 1 {
         return 0;
@@ -31,8 +29,8 @@ fn answer_word(verb: u8, call: Call, word: u64, out: &mut [u8]) -> usize {
     match verb {
         verbs::UNPACK => unpack_line(word, call, out),
         verbs::SHIFTED => shifted_line(word, call, out),
-        verbs::REDUCE => put_packed(reduce(setting_of(call), word), out),
-        _ => put_checked(check_word(setting_of(call), word), out),
+        verbs::REDUCE => put_packed(reduce(call.setting, word), out),
+        _ => put_checked(check_word(call.setting, word), out),
     }
 }
 
@@ -42,8 +40,9 @@ fn unpack_line(word: u64, call: Call, out: &mut [u8]) -> usize {
 }
 
 fn unpack_into(word: u64, call: Call, list: &mut [u64], out: &mut [u8]) -> usize {
-    let n = least(lent(call), list.len());
-    let answer = unpack(setting_of(call), word, &mut list[0..n]);
+    let options = call.options;
+    let n = least(options.size, list.len());
+    let answer = unpack(call.setting, word, &mut list[0..n]);
     put_wrote(answer, call, list, out)
 }
 
@@ -53,8 +52,9 @@ fn shifted_line(word: u64, call: Call, out: &mut [u8]) -> usize {
 }
 
 fn shifted_into(word: u64, call: Call, list: &mut [u16], out: &mut [u8]) -> usize {
-    let n = least(lent(call), list.len());
-    let answer = shifted_residues(setting_of(call), word, &mut list[0..n]);
+    let options = call.options;
+    let n = least(options.size, list.len());
+    let answer = shifted_residues(call.setting, word, &mut list[0..n]);
     put_coefficients(answer, call, list, out)
 }
 

@@ -1,9 +1,9 @@
 // Doubles, as they are typed and shown: `4290`, `1 over 3`, `bits 1`, `nan`, and each of them after `minus`.
+use crate::faults::FINE;
 use crate::faults::Fault;
-use crate::faults::fine;
-use crate::faults::is_fine;
+use crate::faults::NO_FAULT;
+use crate::faults::WHAT;
 use crate::faults::moved;
-use crate::faults::what;
 use crate::numbers::read_all;
 use crate::places::filled;
 use crate::places::is_word;
@@ -31,7 +31,7 @@ pub struct Double {
 pub fn double_at(text: &[u8], j: usize) -> Double {
     let read = signed(section(text, j));
     let fault = read.fault;
-    if is_fine(fault) {
+    if fault.kind == FINE {
         return read;
     }
     wrong(moved(fault, section_start(text, j)))
@@ -41,10 +41,17 @@ fn wrong(fault: Fault) -> Double {
     Double { value: 0.0, fault }
 }
 
+fn no_double(place: usize) -> Double {
+    Double {
+        value: 0.0,
+        fault: Fault { kind: WHAT, place },
+    }
+}
+
 fn right(value: f64) -> Double {
     Double {
         value,
-        fault: fine(),
+        fault: NO_FAULT,
     }
 }
 
@@ -63,7 +70,7 @@ fn signed(alone: &[u8]) -> Double {
 
 fn unsigned(alone: &[u8], start: usize) -> Double {
     if alone.len() <= start {
-        return wrong(what(start));
+        return no_double(start);
     }
     if is_word(alone, start, b"nan") {
         return not_a_number(filled(alone, word_end(alone, start)), alone.len());
@@ -77,7 +84,7 @@ fn unsigned(alone: &[u8], start: usize) -> Double {
 // Nothing may stand after `nan`.
 fn not_a_number(rest: usize, end: usize) -> Double {
     if rest < end {
-        return wrong(what(rest));
+        return no_double(rest);
     }
     right(nan())
 }
@@ -85,7 +92,7 @@ fn not_a_number(rest: usize, end: usize) -> Double {
 fn by_bits(alone: &[u8], from: usize) -> Double {
     let mut bits = [0u64; 1];
     let fault = read_all(alone, from, alone.len(), u64::MAX, &mut bits);
-    if !is_fine(fault) {
+    if fault.kind != FINE {
         return wrong(fault);
     }
     right(of_bits(bits[0]))
@@ -95,18 +102,18 @@ fn by_bits(alone: &[u8], from: usize) -> Double {
 fn quotient(alone: &[u8], start: usize) -> Double {
     let end = letter(alone, start);
     if end == start {
-        return wrong(what(start));
+        return no_double(start);
     }
     let mut above = [0u64; 1];
     let fault = read_all(alone, start, end, u64::MAX, &mut above);
-    if !is_fine(fault) {
+    if fault.kind != FINE {
         return wrong(fault);
     }
     if alone.len() <= end {
         return right(nearest_u64_to_f64(above[0]));
     }
     if !is_word(alone, end, b"over") {
-        return wrong(what(end));
+        return no_double(end);
     }
     let mut below = [0u64; 1];
     let fault = read_all(
@@ -116,7 +123,7 @@ fn quotient(alone: &[u8], start: usize) -> Double {
         u64::MAX,
         &mut below,
     );
-    if !is_fine(fault) {
+    if fault.kind != FINE {
         return wrong(fault);
     }
     right(nearest_u64_to_f64(above[0]) / nearest_u64_to_f64(below[0]))

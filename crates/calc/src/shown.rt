@@ -1,6 +1,5 @@
 // Answers, put into the buffer for them. Each function answers the place after what it has put.
 use crate::call::Call;
-use crate::call::lent;
 use crate::faults::Fault;
 use crate::faults::LARGE;
 use crate::faults::MANY;
@@ -111,12 +110,11 @@ pub fn put_kept(count: usize, call: Call, list: &[u64], out: &mut [u8], at: usiz
         let name = put(b"; changed at", out, at);
         return put_spaced(kept as u64, out, name);
     }
-    let size = lent(call);
-    if size < count {
+    if options.size < count {
         return at;
     }
     let name = put(b"; kept", out, at);
-    put_spaced((size - count) as u64, out, name)
+    put_spaced((options.size - count) as u64, out, name)
 }
 
 // The first place from i on that has no mark, or the end.

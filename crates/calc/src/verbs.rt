@@ -1,73 +1,80 @@
 // The verbs, and what each takes.
 use crate::given;
-use crate::places::is_word;
+use crate::places::later;
+use crate::places::part;
+use crate::places::word_end;
+use texts::putting::put;
 
 pub const NO_VERB: u8 = 0;
 
-// Nothing but numbers is given to these.
+// A verb's number is its place among the names below.
 pub const CHOOSE: u8 = 1;
 
 pub const CHECK: u8 = 2;
 
-pub const BUILD: u8 = 3;
+pub const COEFFICIENTS: u8 = 3;
 
-pub const HELP: u8 = 4;
+pub const FIRST: u8 = 4;
 
-pub const FRESH: u8 = 5;
+pub const PACK: u8 = 5;
 
-pub const CLOSE: u8 = 6;
+pub const UNPACK: u8 = 6;
 
-pub const RECORD: u8 = 7;
+pub const SHIFTED: u8 = 7;
 
-pub const MAKE: u8 = 8;
+pub const REDUCE: u8 = 8;
 
-pub const LANE: u8 = 9;
+pub const WORD: u8 = 9;
 
-pub const START: u8 = 10;
+pub const WORDS: u8 = 10;
 
-pub const FINISH: u8 = 11;
+pub const PRODUCT: u8 = 11;
 
-// From here on doubles are.
-pub const SET_LANE: u8 = 12;
+pub const BUILD: u8 = 12;
 
-pub const LANE_REDUCE: u8 = 13;
+pub const BY_TABLE: u8 = 13;
 
-// From here on words are.
-pub const UNPACK: u8 = 14;
+pub const PICK: u8 = 14;
 
-pub const SHIFTED: u8 = 15;
+pub const FRESH: u8 = 15;
 
-pub const REDUCE: u8 = 16;
+pub const FEED: u8 = 16;
 
-pub const WORD: u8 = 17;
+pub const CLOSE: u8 = 17;
 
-pub const WORDS: u8 = 18;
+pub const RECORD: u8 = 18;
 
-// From here on bytes are.
-pub const BY_TABLE: u8 = 19;
+pub const MAKE: u8 = 19;
 
-pub const PICK: u8 = 20;
+pub const LANE: u8 = 20;
 
-pub const TAKE: u8 = 21;
+pub const LANE_SUM: u8 = 21;
 
-// From here on coefficients are.
-pub const COEFFICIENTS: u8 = 22;
+pub const LANE_REDUCE: u8 = 22;
 
-pub const FIRST: u8 = 23;
+pub const LABEL: u8 = 23;
 
-pub const PACK: u8 = 24;
+pub const PASSES: u8 = 24;
 
-pub const PRODUCT: u8 = 25;
+pub const START: u8 = 25;
 
-pub const LABEL: u8 = 26;
+pub const TAKE: u8 = 26;
 
-pub const PASSES: u8 = 27;
+pub const FINISH: u8 = 27;
 
-pub const LANE_SUM: u8 = 28;
+pub const JOB: u8 = 28;
 
-pub const FEED: u8 = 29;
+pub const HELP: u8 = 29;
 
+// How many names there are.
+const VERBS: u8 = 29;
+
+// `record`, `lane` and `job` where a list follows.
 pub const SET_RECORD: u8 = 30;
+
+pub const SET_LANE: u8 = 31;
+
+pub const SET_JOB: u8 = 32;
 
 // How many numbers a verb takes, which lists, and whether the call is lent something to write into.
 pub struct Form {
@@ -78,136 +85,45 @@ pub struct Form {
     pub writes: bool,
 }
 
-// The verb at place i. `record` and `lane` show what is held, and set it where a list follows.
+// All names, one space apart.
+const NAMES: [u8; 189] =
+    *b"choose check coefficients first pack unpack shifted reduce word words product build bytable pick fresh feed close record make lane lanesum lanereduce label passes start take finish job help";
+
+// What `help` answers.
+pub fn help_line(out: &mut [u8]) -> usize {
+    let names = NAMES;
+    let at = put(b"verbs: ", out, 0);
+    put(&names, out, at)
+}
+
+// The verb at place i. `record`, `lane` and `job` show what is held, and set it where a list follows.
 pub fn verb_at(text: &[u8], i: usize, is_set: bool) -> u8 {
-    let verb = settings_verb(text, i);
-    if verb != NO_VERB {
+    let names = NAMES;
+    let verb = number_of(part(text, i, word_end(text, i)), &names);
+    if !is_set {
         return verb;
     }
-    let verb = words_verb(text, i);
-    if verb != NO_VERB {
-        return verb;
+    match verb {
+        RECORD => SET_RECORD,
+        LANE => SET_LANE,
+        JOB => SET_JOB,
+        _ => verb,
     }
-    let verb = tables_verb(text, i);
-    if verb != NO_VERB {
-        return verb;
-    }
-    let verb = records_verb(text, i, is_set);
-    if verb != NO_VERB {
-        return verb;
-    }
-    lanes_verb(text, i, is_set)
 }
 
-fn settings_verb(text: &[u8], i: usize) -> u8 {
-    if is_word(text, i, b"choose") {
-        return CHOOSE;
-    }
-    if is_word(text, i, b"check") {
-        return CHECK;
-    }
-    if is_word(text, i, b"coefficients") {
-        return COEFFICIENTS;
-    }
-    if is_word(text, i, b"first") {
-        return FIRST;
-    }
-    if is_word(text, i, b"help") {
-        return HELP;
-    }
-    if is_word(text, i, b"label") {
-        return LABEL;
-    }
-    if is_word(text, i, b"passes") {
-        return PASSES;
+// The place of a word among names, counted from 1.
+fn number_of(word: &[u8], names: &[u8]) -> u8 {
+    let mut at = 0;
+    let mut n = 0;
+    while n < VERBS {
+        let end = word_end(names, at);
+        n += 1;
+        if check::same(part(names, at, end), word) {
+            return n;
+        }
+        at = later(end, 1);
     }
     NO_VERB
-}
-
-fn words_verb(text: &[u8], i: usize) -> u8 {
-    if is_word(text, i, b"pack") {
-        return PACK;
-    }
-    if is_word(text, i, b"unpack") {
-        return UNPACK;
-    }
-    if is_word(text, i, b"shifted") {
-        return SHIFTED;
-    }
-    if is_word(text, i, b"reduce") {
-        return REDUCE;
-    }
-    if is_word(text, i, b"word") {
-        return WORD;
-    }
-    if is_word(text, i, b"words") {
-        return WORDS;
-    }
-    NO_VERB
-}
-
-fn tables_verb(text: &[u8], i: usize) -> u8 {
-    if is_word(text, i, b"product") {
-        return PRODUCT;
-    }
-    if is_word(text, i, b"build") {
-        return BUILD;
-    }
-    if is_word(text, i, b"bytable") {
-        return BY_TABLE;
-    }
-    if is_word(text, i, b"pick") {
-        return PICK;
-    }
-    if is_word(text, i, b"start") {
-        return START;
-    }
-    if is_word(text, i, b"take") {
-        return TAKE;
-    }
-    if is_word(text, i, b"finish") {
-        return FINISH;
-    }
-    NO_VERB
-}
-
-fn records_verb(text: &[u8], i: usize, is_set: bool) -> u8 {
-    if is_word(text, i, b"fresh") {
-        return FRESH;
-    }
-    if is_word(text, i, b"feed") {
-        return FEED;
-    }
-    if is_word(text, i, b"close") {
-        return CLOSE;
-    }
-    if is_word(text, i, b"record") {
-        return shown_or_set(RECORD, SET_RECORD, is_set);
-    }
-    NO_VERB
-}
-
-fn lanes_verb(text: &[u8], i: usize, is_set: bool) -> u8 {
-    if is_word(text, i, b"make") {
-        return MAKE;
-    }
-    if is_word(text, i, b"lane") {
-        return shown_or_set(LANE, SET_LANE, is_set);
-    }
-    if is_word(text, i, b"lanesum") {
-        return LANE_SUM;
-    }
-    if is_word(text, i, b"lanereduce") {
-        return LANE_REDUCE;
-    }
-    NO_VERB
-}
-
-fn shown_or_set(shown: u8, set: u8, is_set: bool) -> u8 {
-    if is_set {
-        return set;
-    }
-    shown
 }
 
 pub fn form_of(verb: u8) -> Form {
@@ -233,10 +149,11 @@ pub fn form_of(verb: u8) -> Form {
         CLOSE => listing(0, 0, given::NO_LIST, given::NO_LIST, true),
         SET_RECORD => listing(6, 1, given::RESIDUES, given::NO_LIST, false),
         MAKE => plain(4),
-        SET_LANE => listing(4, 3, given::NO_LIST, given::NO_LIST, false),
+        SET_LANE => listing(4, 3, given::DOUBLE, given::NO_LIST, false),
         LANE_SUM => listing(0, 2, given::COEFFICIENTS, given::COEFFICIENTS, false),
-        LANE_REDUCE => listing(0, 1, given::NO_LIST, given::NO_LIST, false),
+        LANE_REDUCE => listing(0, 1, given::DOUBLE, given::NO_LIST, false),
         TAKE => listing(0, 1, given::BYTES, given::NO_LIST, false),
+        SET_JOB => listing(5, 1, given::HELD_BYTES, given::NO_LIST, false),
         FINISH => listing(0, 0, given::NO_LIST, given::NO_LIST, true),
         _ => plain(0),
     }

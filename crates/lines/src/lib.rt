@@ -1,9 +1,6 @@
-// The lines of the cases programs, piece by piece, on standard output. Numbers are decimal, with a space before each.
+// The lines of exports_cases, piece by piece, on standard output. Numbers are decimal, with a space before each.
 ghost use Rattle.lines.specs.Lines.{Prints, PrintsList};
 use libc::STDOUT_FILENO;
-use packed::running::Record;
-use settings::answers::Wrote;
-use settings::refusals::Refusal;
 
 pub fn text(piece: &[u8])
     ensures { λ r. ⌜ PrintsList (now (piece .entry)) (now (piece .exit)) r ⌝ }
@@ -31,43 +28,6 @@ pub fn setting(p: u64, k: u64, t: u64, n: u64)
     number(k);
     number(t);
     number(n);
-}
-
-fn refusal(cause: Refusal)
-    ensures { λ r. ⌜ Prints r ⌝ }
-{
-    text(b": refused");
-    number(cause.number);
-    number(cause.place);
-}
-
-// The lent list follows, with `bytes`, `coefficients` or `words`.
-pub fn wrote(answer: Wrote)
-    ensures { λ r. ⌜ Prints r ⌝ }
-{
-    match answer {
-        Wrote::Count(m) => {
-            text(b": wrote");
-            number(m as u64);
-        }
-        Wrote::Refused(r) => refusal(r),
-    }
-    text(b":");
-}
-
-pub fn record(running: Record)
-    ensures { λ r. ⌜ Prints r ⌝ }
-{
-    let s = running.setting;
-    let sum = running.sum;
-    let residues = sum.residues;
-    setting(s.p, s.k, s.t, s.n);
-    text(b" total");
-    number(sum.total);
-    text(b" word");
-    number(sum.word);
-    text(b" residues");
-    coefficients(&residues);
 }
 
 pub fn bytes(xs: &[u8])

@@ -3,6 +3,7 @@
 --     blankKind, digitKind, letterKind, colonKind, commentKind, otherKind
 --                                 the kinds, as the code numbers them
 --     kindOf c                    the kind of a byte
+--     kind-once                   it is one
 --     wanted c kind is            the byte is of that kind, where `is` is true, or of another, where it is false
 --     isKind cs kind is j         so is the byte at place j
 --     placeOf cs kind is i        the first place from i on where that holds, and the text's end where there is none; past the end, i itself
@@ -45,6 +46,9 @@ otherKind = 5
 unfoldable pub kindOf : ℕ → ℕ
 kindOf c =
     pick (isBlank c) blankKind (pick (isDigit c) digitKind (pick (isLetter c) letterKind (pick (eqb c 58) colonKind (pick (eqb c 35) commentKind otherKind))))
+
+pub kind-once : (c r s : ℕ) → r ≡ kindOf c → s ≡ kindOf c → r ≡ s
+kind-once c r s a b = a ∙ sym b
 
 abbrev pub wanted : ℕ → ℕ → Bool → Bool
 wanted c kind is = pick is (eqb (kindOf c) kind) (not (eqb (kindOf c) kind))

@@ -1,3 +1,4 @@
+pub mod Examples
 pub mod Kinds
 pub mod KindLaws
 pub mod Putting

@@ -36,7 +36,7 @@ use Rattle.layout.specs.Decimals.{isDigit, reading, numbersIn}
 use Rattle.texts.specs.Kinds.{isBlank}
 use Rattle.texts.specs.KindLaws.{digit-no-blank}
 use Rattle.texts.specs.Reading.{strayAt, followsDigit, beginsAt, numberFrom, numbersBefore, largeAt, manyAt, badAt, outcomeAt, outcome, leftOf, ReadsNumbers}
-use Rattle.texts.specs.Runs.{RunAt, NumberSays, Clean, Listed}
+use Rattle.texts.specs.Runs.{RunAt, NumberSays, Clean, NumbersStand}
 use Rattle.texts.specs.declared.reading.Run.{Run}
 use Rattle.texts.specs.declared.reading.Number.{Number}
 use Rattle.texts.specs.declared.reading.Number.the-variants as inNumber
@@ -340,7 +340,7 @@ writing-room most cs i n value end old now clean r w =
     let one = next-number (numbersIn cs) n value (numbersIn (drop end cs)) (w .rest ∙ r .rest) in
     omega (arith, room, one .0, ap length (w .rest), length-drop n (numbersIn cs))
 
-pub writing-ended : (cs : List ℕ) (i n : ℕ) (old now : List ℕ) → length cs ≤ i → Writing cs i n old now → Listed (numbersIn cs) old now
+pub writing-ended : (cs : List ℕ) (i n : ℕ) (old now : List ℕ) → length cs ≤ i → Writing cs i n old now → NumbersStand (numbersIn cs) old now
 writing-ended cs i n old now h w =
     let ns : List ℕ = numbersIn cs in
     let none : length (numbersIn (drop i cs)) ≡ 0 = rw (drop-of-length-le cs {i = i} h) in
@@ -372,7 +372,7 @@ counted-clean most room cs n e = first-none (badAt most room cs) (length cs) .0 
     go (no l) = omega arith
 
 pub reads-list : (most : ℕ) (cs old : List ℕ) (found : Numbers) (n : ℕ) (after : List ℕ) → found ≡ outcome most (length old) cs → found ≡ Count n
-    → Listed (numbersIn cs) old after → ReadsNumbers most cs old (Count n) after
+    → NumbersStand (numbersIn cs) old after → ReadsNumbers most cs old (Count n) after
 reads-list most cs old found n after o e l = record { answer = sym e ∙ o; list = rw (sym o ∙ e) l }
 
 -- where reading stops the list is left

@@ -2,7 +2,7 @@
 --     RunAt cs i value end        the digits from place i on end at place end, and the number is value
 --     NumberSays                  what looking at one number promises: the run, and that it is not above most; or that it is
 --     Clean most room cs          nothing in the text is bad
---     Listed ns old after         the numbers stand in the list, and then what stood there
+--     NumbersStand ns old after         the numbers stand in the list, and then what stood there
 use Prim.Native.Nat.{ℕ, _≤_, _<_}
 use mathlib.Core.Path.{_≡_}
 use mathlib.Core.Bool.{true, false}
@@ -28,5 +28,5 @@ NumberSays most cs i Large = most < numberFrom cs i
 abbrev pub Clean : ℕ → ℕ → List ℕ → Type 0
 Clean most room cs = (j : ℕ) → j < length cs → badAt most room cs j ≡ false
 
-abbrev pub Listed : List ℕ → List ℕ → List ℕ → Type 0
-Listed ns old after = after ≡ ns ++ drop (length ns) old
+abbrev pub NumbersStand : List ℕ → List ℕ → List ℕ → Type 0
+NumbersStand ns old after = after ≡ ns ++ drop (length ns) old

@@ -6,7 +6,7 @@ ghost use lib.ListN.{length};
 ghost use Rattle.layout.specs.Decimals.{isDigit, numbersIn};
 ghost use Rattle.polynomials.specs.Lists.{coefficient};
 ghost use Rattle.texts.specs.Reading.{outcome, ReadsNumbers};
-ghost use Rattle.texts.specs.Runs.{NumberSays, Clean, Listed};
+ghost use Rattle.texts.specs.Runs.{NumberSays, Clean, NumbersStand};
 use crate::kinds::BLANK;
 use crate::kinds::DIGIT;
 use crate::kinds::kind_of;
@@ -77,7 +77,7 @@ fn check_numbers(text: &[u8], most: u64, room: usize) -> Numbers
 // The numbers of a text in which nothing is bad.
 fn write_numbers(text: &[u8], most: u64, out: &mut [u64])
     requires { ⌜ Clean most (length (now out)) (now text) ⌝ }
-    ensures { λ r. ⌜ Listed (numbersIn (now (text .entry))) (now (out .entry)) (now (out .exit)) ⌝ }
+    ensures { λ r. ⌜ NumbersStand (numbersIn (now (text .entry))) (now (out .entry)) (now (out .exit)) ⌝ }
 {
     let mut n = 0;
     let mut i = 0;

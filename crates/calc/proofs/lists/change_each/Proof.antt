@@ -70,9 +70,6 @@ loop-less c = search needs
 loop-again : tie.Need-loop-again Inv-loop μ-loop
 loop-again c = search needs
 
-fine-requires : tie.Need-fine-requires Inv-loop μ-loop
-fine-requires c κs = search needs
-
 same-length-3 : tie.Need-same-length-3 Inv-loop μ-loop
 same-length-3 c = search needs
 
@@ -104,6 +101,5 @@ change-each-spec =
     add-i
     loop-less
     loop-again
-    fine-requires
     same-length-3
     returns-3)
