@@ -1,18 +1,17 @@
 -- Laws of the kinds of bytes. Assumes nothing.
---     digit-bounds, digit-range    a digit is a byte from 48 to 57
+--     digit-bounds                 a digit is a byte from 48 to 57
 --     digit-no-blank               no byte is both a digit and a blank
 --     digit-kind, kind-digit, kind-no-digit
 --                                  a byte is of the kind of digits exactly where it is one
 --     letter-kind, other-kind      the kinds of other bytes
 --     kind-blank, kind-stray       a byte of the kind of blanks is one; one of neither kind is neither
 use Prim.Native.Nat.{ℕ, _≤_, _<_}
-use mathlib.Core.Path.{_≡_, refl, sym, _∙_}
+use mathlib.Core.Path.{_≡_, refl, sym}
 use mathlib.Core.Bool.{Bool, true, false, not, _||_, true≢false}
 use native.Mathlib.Omega.{arith}
 use lib.Dec.{eqb, ltb}
 use borrow.Author.Tests.{lt-ltb, le-ltb, ltb-true, ltb-false, ne-eqb}
 use Rattle.polynomials.specs.Indices.{pick}
-use Rattle.polynomials.specs.Tests.{neither}
 use Rattle.layout.specs.Decimals.{isDigit}
 use Rattle.texts.specs.Kinds.{isBlank, isLetter, blankKind, digitKind, letterKind, colonKind, commentKind, otherKind, kindOf}
 
@@ -35,9 +34,6 @@ no-blank c low = rw (ne-eqb c 32 (λ e. absurd (omega arith)), ne-eqb c 10 (λ e
 
 pub digit-no-blank : (c : ℕ) → isDigit c ≡ true → isBlank c ≡ false
 digit-no-blank c h = no-blank c (digit-bounds c h .0)
-
-pub digit-range : (c : ℕ) → 48 ≤ c → c ≤ 57 → isDigit c ≡ true
-digit-range c low high = rw (le-ltb c 48 low, lt-ltb c 58 (omega arith))
 
 pub digit-kind : (c : ℕ) → isDigit c ≡ true → kindOf c ≡ digitKind
 unfolding kindOf

@@ -17,7 +17,7 @@
 --     clean-small, writing-room    where nothing is bad, a number that begins is not too large, and there is room for it
 use Prim.Native.Nat.{ℕ, zero, suc, _+_, _-_, _*_, _≤_, _<_}
 use mathlib.Core.Path.{_≡_, refl, sym, ap, _∙_}
-use mathlib.Core.Bool.{Bool, true, false, not, _||_, _&&_, true≢false, and-false}
+use mathlib.Core.Bool.{Bool, true, false, not, true≢false, and-false}
 use mathlib.Core.List.{List, [], _∷_, _++_}
 use native.Mathlib.Nat.{sub-zero, zero-add}
 use native.Mathlib.Numerals.{add-one}
@@ -35,7 +35,7 @@ use Rattle.polynomials.specs.ListLaws.{coefficients, coefficient-past}
 use Rattle.layout.specs.Decimals.{isDigit, reading, numbersIn}
 use Rattle.texts.specs.Kinds.{isBlank}
 use Rattle.texts.specs.KindLaws.{digit-no-blank}
-use Rattle.texts.specs.Reading.{strayAt, followsDigit, beginsAt, numberFrom, numbersBefore, largeAt, manyAt, badAt, outcomeAt, outcome, leftOf, ReadsNumbers}
+use Rattle.texts.specs.Reading.{strayAt, followsDigit, numberFrom, numbersBefore, largeAt, manyAt, badAt, outcomeAt, outcome, leftOf, ReadsNumbers}
 use Rattle.texts.specs.Runs.{RunAt, NumberSays, Clean, NumbersStand}
 use Rattle.texts.specs.declared.reading.Run.{Run}
 use Rattle.texts.specs.declared.reading.Number.{Number}

@@ -2,7 +2,6 @@
 use Prim.Native.Nat.{_-_}
 use mathlib.Core.Path.{_≡_}
 use lib.ListN.{length}
-use native.Mathlib.Omega.{arith}
 use borrow.Author.Needs.{needs}
 use Rattle.calc.proofs.lists.change_each.Statement.{statement}
 use Rattle.calc.proofs.lists.change_each.Tie as tie

@@ -1,14 +1,13 @@
 -- `check_numbers` meets its contract: no place before i is bad, and n numbers stand there. Assumes nothing.
-use Prim.Native.Nat.{ℕ, _-_, _≤_, _<_}
+use Prim.Native.Nat.{_-_}
 use mathlib.Core.Path.{_≡_, sym, _∙_}
-use mathlib.Core.Bool.{true, false}
+use mathlib.Core.Bool.{true}
 use native.Mathlib.Omega.{arith}
 use lib.ListN.{length}
 use denote.Ref.{now}
 use borrow.Author.Needs.{needs}
 use Rattle.polynomials.specs.Lists.{coefficient}
 use Rattle.layout.specs.Decimals.{isDigit}
-use Rattle.texts.specs.Runs.{RunAt}
 use Rattle.texts.specs.KindLaws.{kind-digit, kind-no-digit, kind-blank, kind-stray}
 use Rattle.texts.specs.RunLaws.{fits-told, large-told, Sought, sought-begins, sought-blank, sought-run, sought-stray, sought-large, sought-many, sought-ended}
 use Rattle.texts.proofs.reading.check_numbers.Statement.{statement}
