@@ -87,14 +87,6 @@ static uint64_t width(uint64_t p, uint64_t k, uint64_t n)
     return t;
 }
 
-/* The largest width that 6 lets pass, so that the top place of many settings is short. */
-static uint64_t widest(uint64_t p, uint64_t k, uint64_t n)
-{
-    uint64_t t = 63;
-    while (t > 1 && ((2 * k - 2) * t >= 64 || n * (p - 1) * (p - 1) > UINT64_MAX >> (2 * k - 2) * t)) t--;
-    return t;
-}
-
 int main(void)
 {
     for (int i = 0; i < ROUNDS; i++) {
@@ -103,8 +95,6 @@ int main(void)
         if (one_in(16)) p = one_in(2) ? below(2) : 65535 + below(3);
         if (one_in(8)) k = below(10);
         if (one_in(16)) n = one_in(2) ? 0 : 1048575 + below(3);
-        if (one_in(16)) p = 2 + below(3), k = 6 + below(2), n = 1;
-        if (one_in(3)) t = widest(p, k, n) + one_in(8);
         if (one_in(8)) t = below(66);
         products_and_sums(p, k, t, n);
         if (p < 14 || p > 127) reductions(p, k, t, n);

@@ -37,11 +37,11 @@ static uint64_t sum64(const uint64_t *xs, size_t len)
     return sum;
 }
 
-/* Words of (2k-1)t bits, or of 64 where that is more, all at random. */
+/* Words below 2^((2k-1)t), all their bits at random. */
 static uint64_t *random_words(void)
 {
-    uint64_t *words = room(size * sizeof *words), state = p, bits = (2 * k - 1) * t;
-    for (size_t i = 0; i < size; i++) words[i] = next_number(&state) >> (bits < 64 ? 64 - bits : 0);
+    uint64_t *words = room(size * sizeof *words), state = p;
+    for (size_t i = 0; i < size; i++) words[i] = next_number(&state) >> (64 - (2 * k - 1) * t);
     return words;
 }
 

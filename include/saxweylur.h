@@ -8,9 +8,8 @@
  *
  * SETTINGS. A setting is four numbers: p, the modulus; k, coefficients per packed polynomial;
  * t, bits per place; n, products added before a reduction. Below, q is 2^t. A word has 2k-1 places
- * of t bits; field i of a word is floor(word / q^i) mod q. Where (2k-1)t is 64 or more, the top
- * place is short: it starts at bit (2k-2)t and has the 64-(2k-2)t bits that are left. Any numbers
- * may be given, also ones that make no setting: those are refused.
+ * of t bits; field i of a word is floor(word / q^i) mod q. Any numbers may be given, also ones
+ * that make no setting: those are refused.
  *
  * REPLIES. Every call returns, and says in its reply whether it was refused. Where several causes
  * hold at once, the first in the order that stands beside the function is given; "setting" there
@@ -41,15 +40,14 @@ enum sax_refusal {
     SAX_BATCH = 3,       /* n outside 1..1,048,576 */
     SAX_WIDTH = 4,       /* t outside 1..63 */
     SAX_NARROW = 5,      /* 2^t <= n k (p-1)^2 */
-    SAX_ROOM = 6,        /* (2k-2) t >= 64, or n (p-1)^2 >= 2^(64-(2k-2)t) */
+    SAX_ROOM = 6,        /* (2k-1) t >= 64 */
     SAX_NONE = 7,        /* no t in 1..63 escapes both 5 and 6 */
     SAX_COEFFICIENT = 8, /* a coefficient >= p; place: its index, in the second of two lists the
                             first's length added */
     SAX_SHAPE = 9,       /* a list's length is wrong for the call */
     SAX_SHORT = 10,      /* the output buffer is shorter than needed */
     SAX_WORD = 11,       /* a word >= 2^((2k-1)t), or a double that is no whole number below that;
-                            where (2k-1)t is 64 or more it is not given for a word; place: its
-                            index where it stands in a list */
+                            place: its index where it stands in a list */
     SAX_RECORD = 12,     /* a record that is not coherent; no function here takes a record */
     SAX_FULL = 13,       /* more pairs than the call may take */
     SAX_NO_TABLE = 14,   /* p > 127 */

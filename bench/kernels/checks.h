@@ -22,18 +22,12 @@ static inline uint64_t setting_cause(setting s)
     if (s.k < 1 || s.k > 8) return LENGTH;
     if (s.n < 1 || s.n > 1048576) return BATCH;
     if (s.t < 1 || s.t > 63) return WIDTH;
-    uint64_t most = s.n * (s.p - 1) * (s.p - 1), top = (2 * s.k - 2) * s.t;
-    if (UINT64_C(1) << s.t <= most * s.k) return NARROW;
-    if (top >= 64 || most > UINT64_MAX >> top) return ROOM;
+    if (UINT64_C(1) << s.t <= s.n * s.k * (s.p - 1) * (s.p - 1)) return NARROW;
+    if ((2 * s.k - 1) * s.t >= 64) return ROOM;
     return 0;
 }
 
-/* Where (2k-1)t is 64 or more, no word is too large. */
-static inline bool word_cause(setting s, uint64_t word)
-{
-    uint64_t bits = (2 * s.k - 1) * s.t;
-    return bits < 64 && word >> bits != 0;
-}
+static inline bool word_cause(setting s, uint64_t word) { return word >> (2 * s.k - 1) * s.t != 0; }
 
 /* The index of the first coefficient that is not below p, or the list's length. */
 static inline size_t search_bad(uint64_t p, const uint16_t *xs, size_t len)

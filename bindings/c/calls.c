@@ -51,16 +51,6 @@ static int left64(size_t out_len)
     return memcmp(got64, want64, (GUARD + out_len + GUARD) * sizeof *got64) == 0;
 }
 
-void meant_fields(const uint64_t *fields, size_t len)
-{
-    meant_that(memcmp(want64 + GUARD, fields, len * sizeof *fields) == 0);
-}
-
-void meant_coefficients(const uint16_t *xs, size_t len)
-{
-    meant_that(memcmp(want16 + GUARD, xs, len * sizeof *xs) == 0);
-}
-
 static void *lent(void *buffer, size_t len)
 {
     return len == 0 && null_for_empty ? NULL : buffer;

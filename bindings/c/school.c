@@ -23,12 +23,10 @@ uint64_t school_setting(setting s)
         return 3;
     if (s.t < 1 || s.t > 63)
         return 4;
-    /* Past 1, 2 and 3 this is below 2^52, and k times this below 2^55. */
-    uint64_t most = s.n * (s.p - 1) * (s.p - 1), top = (2 * s.k - 2) * s.t;
-    if ((uint64_t)1 << s.t <= most * s.k)
+    /* Past 1, 2 and 3 the right side is below 2^55. */
+    if ((uint64_t)1 << s.t <= s.n * s.k * (s.p - 1) * (s.p - 1))
         return 5;
-    /* The top place has 64 - top bits, whose largest number is 2^(64 - top) - 1. */
-    if (top >= 64 || most > UINT64_MAX >> top)
+    if ((2 * s.k - 1) * s.t >= 64)
         return 6;
     return 0;
 }
@@ -51,15 +49,9 @@ uint64_t school_places(setting s)
     return 2 * s.k - 1;
 }
 
-uint64_t school_largest_word(setting s)
-{
-    uint64_t bits = school_places(s) * s.t;
-    return bits < 64 ? ((uint64_t)1 << bits) - 1 : UINT64_MAX;
-}
-
 int school_too_large(setting s, uint64_t word)
 {
-    return word > school_largest_word(s);
+    return word >> (school_places(s) * s.t) != 0;
 }
 
 size_t school_first_bad(uint64_t p, const uint16_t *xs, size_t xs_len,

@@ -46,9 +46,6 @@ sax_lane_reply school_lane_reduce(setting s, double word);
 sax_reply school_answer(uint64_t value);
 sax_reply school_refusal(uint64_t number, uint64_t place);
 uint64_t school_places(setting s);
-
-/* The largest word that 11 does not refuse: all 64 bits where (2k-1)t is 64 or more. */
-uint64_t school_largest_word(setting s);
 int school_too_large(setting s, uint64_t word);
 
 /* The index of the first coefficient that is p or more, the second list after the first, or the

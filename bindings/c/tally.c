@@ -60,12 +60,6 @@ void meant_lane_value(sax_lane_reply want, double value)
         not_meant(0, 0);
 }
 
-void meant_that(int holds)
-{
-    if (!holds)
-        not_meant(0, 0);
-}
-
 #define BIT(number) ((uint32_t)1 << (number))
 #define SETTING (BIT(1) | BIT(2) | BIT(3) | BIT(4) | BIT(5) | BIT(6))
 
@@ -109,7 +103,7 @@ uint64_t sample_word(setting s, uint64_t c)
     fill(65536, c, parts, 4);
     for (int i = 0; i < 4; i++)
         word = (word << 16) + parts[i];
-    return word & school_largest_word(s);
+    return word & (((uint64_t)1 << (school_places(s) * s.t)) - 1);
 }
 
 setting make_setting(uint64_t p, uint64_t k, uint64_t t, uint64_t n)
@@ -123,28 +117,10 @@ static void visit_widths(uint64_t p, uint64_t k, uint64_t n, void (*visit)(setti
     sax_reply chosen = school_choose(p, k, n);
     if (chosen.number != 0)
         return;
-    uint64_t whole = 63 / (2 * k - 1), widest = 63;
-    while (school_setting(make_setting(p, k, widest, n)) != 0)
-        widest--;
+    uint64_t widest = 63 / (2 * k - 1);
     visit(make_setting(p, k, chosen.value, n));
-    if (chosen.value < whole)
-        visit(make_setting(p, k, whole, n));
-    if (chosen.value < widest && whole < widest)
+    if (chosen.value < widest)
         visit(make_setting(p, k, widest, n));
-}
-
-/* Each k that has settings with a short top place, which 5 and 8 have not; the largest p or n of a
-   width, but for 38, the smallest p that has none with k = 3 and whole places. */
-static void visit_short(void (*visit)(setting s))
-{
-    static const setting settings[] = {
-        {2, 2, 31, 3},  {4, 2, 30, 1},  {2, 2, 22, 1048575}, {1024, 2, 22, 1},
-        {2, 3, 15, 15}, {4, 3, 15, 1},  {4, 3, 14, 28},      {16, 3, 14, 1},
-        {38, 3, 13, 1}, {53, 3, 13, 1}, {2, 4, 10, 15},      {4, 4, 10, 1},
-        {2, 6, 6, 10},  {4, 6, 6, 1},   {2, 7, 5, 4},        {3, 7, 5, 1},
-    };
-    for (size_t i = 0; i < sizeof settings / sizeof *settings; i++)
-        visit(settings[i]);
 }
 
 void for_settings(void (*visit)(setting s))
@@ -156,5 +132,4 @@ void for_settings(void (*visit)(setting s))
         for (uint64_t k = 1; k <= 8; k++)
             for (size_t j = 0; j < sizeof ns / sizeof *ns; j++)
                 visit_widths(ps[i], k, ns[j], visit);
-    visit_short(visit);
 }

@@ -32,14 +32,6 @@ void meant_value(sax_reply want, uint64_t value);
 void meant_lane(sax_lane_reply want, uint64_t number, uint64_t place);
 void meant_lane_value(sax_lane_reply want, double value);
 
-/* That the output of the last call had to become these: fields of try_unpack, coefficients of
-   try_product and try_sum. */
-void meant_fields(const uint64_t *fields, size_t len);
-void meant_coefficients(const uint16_t *xs, size_t len);
-
-/* Counts the last call as wrong unless this holds. */
-void meant_that(int holds);
-
 /* The functions, for the count of what was met. */
 enum call {
     CHOOSE, PACK, UNPACK, REDUCE, BUILD_TABLE, REDUCE_BY_TABLE, PRODUCT, SUM, LANE_SUM,
@@ -56,8 +48,7 @@ uint64_t sample_word(setting s, uint64_t c);
 
 setting make_setting(uint64_t p, uint64_t k, uint64_t t, uint64_t n);
 
-/* Accepted settings: many p and n, each k, the smallest and the largest t, and the largest with
-   which all places are whole; and some whose top place is short. */
+/* Accepted settings: many p and n, each k, the smallest and the largest t. */
 void for_settings(void (*visit)(setting s));
 
 void test_settings(void);

@@ -8,7 +8,8 @@
 
 static uint16_t xs[8 * PAIRS], ys[8 * PAIRS];
 
-/* Either side of 16, and 16 before all that follows it. With k = 8 each accepted width meets it. */
+/* Either side of 16, and 16 before all that follows it. With k = 7 a width is below 53 bits or has
+   no room, and with k = 8 every accepted one is above. */
 static void around_16(uint64_t k, uint64_t t)
 {
     static const uint16_t top[3] = {65535, 65535, 65535}, zeros[8];
@@ -17,10 +18,12 @@ static void around_16(uint64_t k, uint64_t t)
         meant_lane_value(try_lane_sum(fits, zeros, (size_t)k, zeros, (size_t)k), 0.0);
         meant_lane_value(try_lane_reduce(fits, 3.0), 1.0);
     }
-    meant_lane(try_lane_sum(wide, zeros, (size_t)k, zeros, (size_t)k), 16, 0);
-    meant_lane(try_lane_sum(wide, top, 3, top, 2), 16, 0);
-    meant_lane(try_lane_reduce(wide, 1.0), 16, 0);
-    meant_lane(try_lane_reduce(wide, -1.0), 16, 0);
+    if (k != 7) {
+        meant_lane(try_lane_sum(wide, zeros, (size_t)k, zeros, (size_t)k), 16, 0);
+        meant_lane(try_lane_sum(wide, top, 3, top, 2), 16, 0);
+        meant_lane(try_lane_reduce(wide, 1.0), 16, 0);
+        meant_lane(try_lane_reduce(wide, -1.0), 16, 0);
+    }
 }
 
 static void widths(void)
@@ -100,7 +103,7 @@ static void improper(setting s, double limit)
 /* Multiples of p and their neighbours, where a quotient that is off by one would show. */
 static void reductions(setting s)
 {
-    uint64_t limit = school_largest_word(s) + 1;
+    uint64_t limit = (uint64_t)1 << (school_places(s) * s.t);
     for (uint64_t c = 1; c <= 6; c++) {
         uint64_t word = sample_word(s, 500 * c + s.n), multiple = word / s.p * s.p;
         try_lane_reduce(s, (double)word);

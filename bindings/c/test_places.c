@@ -11,23 +11,6 @@ static void examples(void)
     meant_value(try_reduce(s, 1122), 258);
 }
 
-/* A short top place: bits 52 to 63. Worked out by hand from the definition: 52 + 52 q + 52 q^2 with
-   q = 8192, its square, and the largest word. */
-static void short_examples(void)
-{
-    setting s = make_setting(53, 3, 13, 1);
-    static const uint16_t top[3] = {52, 52, 52};
-    static const uint64_t square[5] = {2704, 5408, 8112, 5408, 2704};
-    static const uint64_t most[5] = {8191, 8191, 8191, 8191, 4095};
-    meant_value(try_pack(s, top, 3), 3490086964);
-    meant_value(try_unpack(s, 12180707016282737296u, 5), 5);
-    meant_fields(square, 5);
-    meant_value(try_reduce(s, 12180707016282737296u), 4504699340341249);
-    meant_value(try_unpack(s, UINT64_MAX, 5), 5);
-    meant_fields(most, 5);
-    meant_value(try_reduce(s, UINT64_MAX), 63066339648184349);
-}
-
 /* A coefficient p at each index, alone and before another one; and beside a wrong length. */
 static void pack_bad(setting s, uint16_t *xs)
 {
@@ -70,34 +53,25 @@ static void unpacks(setting s, uint64_t word)
     try_reduce(s, word);
 }
 
-static void too_large(setting s, uint64_t word)
-{
-    meant(try_unpack(s, word, 20), 11, 0);
-    meant(try_unpack(s, word, 0), 11, 0);
-    meant(try_reduce(s, word), 11, 0);
-}
-
-/* Up to the largest, also its top bit alone; none is too large where that is all 64 bits. */
 static void words(setting s)
 {
-    uint64_t largest = school_largest_word(s);
+    uint64_t limit = (uint64_t)1 << (school_places(s) * s.t);
     for (uint64_t c = 1; c <= 5; c++)
         unpacks(s, sample_word(s, 1000 * c + s.p));
     unpacks(s, 0);
     unpacks(s, 1);
-    unpacks(s, largest / 2 + 1);
-    unpacks(s, largest);
-    if (largest == UINT64_MAX)
-        return;
-    too_large(s, largest + 1);
-    too_large(s, (largest + 1) | 1);
-    too_large(s, UINT64_MAX);
+    unpacks(s, limit - 1);
+    for (int i = 0; i < 3; i++) {
+        uint64_t word = i == 0 ? limit : i == 1 ? limit | 1 : UINT64_MAX;
+        meant(try_unpack(s, word, 20), 11, 0);
+        meant(try_unpack(s, word, 0), 11, 0);
+        meant(try_reduce(s, word), 11, 0);
+    }
 }
 
 void test_places(void)
 {
     examples();
-    short_examples();
     for_settings(packs);
     for_settings(words);
 }

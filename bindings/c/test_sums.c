@@ -23,34 +23,6 @@ static void example(void)
     }
 }
 
-/* As many pairs of k coefficients p-1, and what their sum has to be. */
-static void same_pairs(setting s, size_t pairs, const uint16_t *sum)
-{
-    size_t len = pairs * (size_t)s.k;
-    for (size_t i = 0; i < len; i++)
-        xs[i] = ys[i] = (uint16_t)(s.p - 1);
-    for (size_t i = 0; i < SIZES; i++) {
-        meant_value(try_sum(s, xs, len, ys, len, sizes[i], SAX_MOST_FIELDS),
-                    (pairs + s.n - 1) / s.n);
-        meant_coefficients(sum, (size_t)school_places(s));
-    }
-}
-
-/* With a short top place, which n such pairs fill: field j of a pair is min(j+1, 2k-1-j) (p-1)^2.
-   Worked out by hand from the definition. */
-static void short_examples(void)
-{
-    static const uint16_t zeros[5], up[5] = {1, 2, 3, 2, 1}, down[5] = {3, 2, 1, 2, 3};
-    static const uint16_t odd[5] = {1, 0, 1, 0, 1};
-    same_pairs(make_setting(53, 3, 13, 1), 1, up);
-    same_pairs(make_setting(4, 3, 14, 28), 27, down);
-    same_pairs(make_setting(4, 3, 14, 28), 28, zeros);
-    same_pairs(make_setting(4, 3, 14, 28), 29, up);
-    same_pairs(make_setting(2, 3, 15, 15), 15, odd);
-    same_pairs(make_setting(2, 2, 31, 3), 3, odd);
-    same_pairs(make_setting(2, 2, 24, 65535), 65535, odd);
-}
-
 /* Numbers of pairs around those of a batch, whatever the size of a call. */
 static void around_batches(setting s)
 {
@@ -142,7 +114,6 @@ static void full(setting s, size_t size)
 void test_sums(void)
 {
     example();
-    short_examples();
     for_settings(around_batches);
     for_settings(largest);
     for_settings(shapes);
@@ -151,5 +122,4 @@ void test_sums(void)
     full(make_setting(65521, 1, 50, 31), 1000);
     full(make_setting(3, 2, 5, 2), 999999);
     full(make_setting(3, 2, 21, 4096), 7);
-    full(make_setting(2, 2, 31, 3), 1000);
 }

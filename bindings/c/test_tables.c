@@ -21,7 +21,7 @@ static void set_words(setting s)
     for (size_t i = 0; i < WORDS; i++)
         words[i] = sample_word(s, 77 * i + s.t);
     words[0] = 0;
-    words[WORDS - 1] = school_largest_word(s);
+    words[WORDS - 1] = ((uint64_t)1 << (school_places(s) * s.t)) - 1;
 }
 
 static void builds(setting s)
@@ -38,13 +38,10 @@ static void builds(setting s)
     meant_value(try_build_table(s, size + 300), size);
 }
 
-/* A bad word at the first, a middle and the last index, and the first of two; with a short top
-   place there is none. */
+/* A bad word at the first, a middle and the last index, and the first of two. */
 static void bad_words(setting s, size_t size)
 {
-    if (school_largest_word(s) == UINT64_MAX)
-        return;
-    uint64_t limit = school_largest_word(s) + 1, kept = words[WORDS / 2];
+    uint64_t limit = (uint64_t)1 << (school_places(s) * s.t), kept = words[WORDS / 2];
     words[WORDS / 2] = limit;
     meant(try_reduce_by_table(s, table, size, words, WORDS, WORDS + 3), 11, WORDS / 2);
     meant(try_reduce_by_table(s, table, size, words, WORDS, WORDS - 1), 10, 0);

@@ -24,16 +24,6 @@ HEADERS = [
     (11, (3, 2, 5, 2 + 2**8), "refused 5 0"),
     (11, (3, 2, 5, 2 + 2**16), "refused 5 0"),
     (11, (3, 2, 5, 2 + 2**24), "refused 3 0"),
-    (11, (53, 3, 14, 1), "refused 6 0"),
-    (11, (4, 3, 14, 29), "refused 6 0"),
-    (11, (53, 3, 13, 1), "53 3 13 1 0 0: 0 0 0 0 0"),
-]
-# jobs at settings whose top place is short: a setting, all of the coefficients, pairs, and the line
-SHORT_TOP = [
-    ((53, 3, 13, 1), 52, 1, "53 3 13 1 1 1: 1 2 3 2 1"),
-    ((4, 3, 14, 28), 3, 27, "4 3 14 28 27 1: 3 2 1 2 3"),
-    ((4, 3, 14, 28), 3, 28, "4 3 14 28 28 1: 0 0 0 0 0"),
-    ((4, 3, 14, 28), 3, 29, "4 3 14 28 29 2: 1 2 3 2 1"),
 ]
 
 
@@ -91,15 +81,9 @@ def rows(sheet):
         sheet.say("finish into 126 digest")
         # it is still there
         sheet.say("finish", gives=whole(line))
-    sheet.group("jobs: headers with no pairs after them, around the shortest length, with a byte more in a number, and around 6")
+    sheet.group("jobs: headers with no pairs after them, around the shortest length, and with a byte more in a number")
     for length, s, line in HEADERS:
         pieces(sheet, line, header(length, s))
-    sheet.group("jobs: settings whose top place is short, each cut in the last pair")
-    for s, x, pairs, line in SHORT_TOP:
-        k = s[1]
-        bs = header(11 + 4 * k * pairs, s) + bytes([0, x]) * (2 * k * pairs)
-        assert job(bs) == line
-        pieces(sheet, line, bs[:-5], bs[-5:])
     sheet.group("jobs: those that an independent program gave the lines of")
     lines = given()
     for bs, (kind, line) in lines.items():

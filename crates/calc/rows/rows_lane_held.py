@@ -51,16 +51,13 @@ def rows(sheet):
     sheet.group("12: settings that are refused, with their doubles")
     for number, *s in [
         (1, 0, 2, 5, 2), (1, 1, 2, 5, 2), (1, 65537, 1, 40, 1), (2, 3, 0, 5, 2), (2, 3, 9, 5, 2), (3, 3, 2, 5, 0), (3, 3, 2, 5, 1048577),
-        (4, 3, 2, 0, 2), (4, 3, 2, 64, 2), (4, 3, 2, ALL, 2), (5, 3, 2, 5, 4), (6, 3, 2, 31, 2),
+        (4, 3, 2, 0, 2), (4, 3, 2, 64, 2), (4, 3, 2, ALL, 2), (5, 3, 2, 5, 4), (6, 3, 2, 22, 2),
     ]:
         p, k, t, n = s
         assert check(*s) == number
         held(sheet, s, float(p), 2.0**t if t < 1024 else inf, 1.0 / p if p else inf)
     sheet.group("12: settings that meet 16, each beside one that does not")
-    for number, *s in [
-        (16, 3, 2, 18, 2), (0, 3, 2, 17, 2), (16, 3, 1, 53, 2), (0, 3, 1, 52, 2), (16, 3, 4, 8, 7), (0, 3, 4, 7, 7), (16, 2, 8, 4, 1),
-        (16, 53, 3, 13, 1),
-    ]:
+    for number, *s in [(16, 3, 2, 18, 2), (0, 3, 2, 17, 2), (16, 3, 1, 53, 2), (0, 3, 1, 52, 2), (16, 3, 4, 8, 7), (0, 3, 4, 7, 7), (16, 2, 8, 4, 1)]:
         assert refused_lane(s) == number
         held(sheet, s, *right_doubles(s), sound=number == 0)
     sheet.group("12 before the others")

@@ -4,27 +4,14 @@ from document import ALL
 from rows import refused
 
 SMALL, LARGE, EIGHT = (3, 2, 4, 1), (929, 2, 21, 1), (2, 8, 4, 1)
-# settings whose top place is short: 2k-1 places of t bits are more than 64 bits, and the last has what is left of these; n is the largest for each
-LAST = (53, 3, 13, 1)
-SHORT = [
-    LAST, (38, 3, 13, 1), (16, 3, 14, 1), (4, 3, 14, 28), (2, 3, 15, 15), (2, 2, 31, 3), (1024, 2, 22, 1), (2, 4, 10, 15), (4, 6, 6, 1), (2, 7, 5, 4),
-]
-# a setting for each of 1 to 6; 6 by n (p-1)^2 of 2^(64 - (2k-2) t), by (2k-2) t above 64, and by n (p-1)^2 above that
+# a setting for each of 1 to 6
 SIX = [
-    [(1, 2, 4, 1), (3, 9, 4, 1), (3, 2, 4, 0), (3, 2, 64, 1), (3, 2, 3, 1), (3, 2, 31, 1)],
+    [(1, 2, 4, 1), (3, 9, 4, 1), (3, 2, 4, 0), (3, 2, 64, 1), (3, 2, 3, 1), (3, 2, 22, 1)],
     [(65537, 2, 4, 1), (3, 0, 4, 1), (3, 2, 4, 1048577), (3, 2, 0, 1), (3, 2, 4, 2), (3, 8, 9, 1)],
-    [(0, 2, 4, 1), (3, ALL, 4, 1), (3, 2, 4, ALL), (3, 2, ALL, 1), (3, 2, 1, 1), (53, 3, 14, 1)],
+    [(0, 2, 4, 1), (3, ALL, 4, 1), (3, 2, 4, ALL), (3, 2, ALL, 1), (3, 2, 1, 1), (53, 3, 13, 1)],
 ]
-# the square of (52, 52, 52), packed; it, and the answers that are written out at such settings, were worked out apart from the words of request T-01
-SQUARE = 12180707016282737296
 # settings, and the bits that a word of theirs may have
 BITS = [(SMALL, 12), (EIGHT, 60), (LARGE, 63), ((65536, 1, 32, 1), 32), ((65536, 1, 63, 1), 63)]
-
-
-def edges(s):
-    """Words on both sides of where the top place begins, 2^63, and the last word."""
-    begin = 2 ** ((2 * s[1] - 2) * s[2])
-    return [begin - 1, begin, 2**63, ALL]
 
 
 def pack(sheet):
@@ -64,14 +51,6 @@ def pack(sheet):
         say(s, xs)
     for x in [65535, 0]:
         say((65536, 1, 63, 1), [x])
-    sheet.group("pack: settings whose top place is short")
-    sheet.say("pack", LAST, ": 52 52 52", gives="word 3490086964")
-    for s in SHORT[1:]:
-        say(s, [s[0] - 1] * s[1])
-    say(LAST, [0, 0, 52])
-    say(LAST, [52, 52], 9)
-    say(LAST, [53, 0, 0], 8, 0)
-    say(LAST, [0, 0, 53], 8, 2)
 
 
 def written(sheet):
@@ -111,17 +90,6 @@ def written(sheet):
         sheet.say(verb, SMALL, ": 1122")
         sheet.say(verb, SMALL, "digest : 1122")
         sheet.say(verb, EIGHT, "into 16384 digest :", 0x123456789ABCDEF)
-    sheet.group("unpack and shifted: settings whose top place is short")
-    sheet.say("unpack", LAST, "into 5 :", SQUARE, gives="wrote 5: 2704 5408 8112 5408 2704; kept 0")
-    sheet.say("unpack", LAST, "into 5 :", ALL, gives="wrote 5: 8191 8191 8191 8191 4095; kept 0")
-    sheet.say("shifted", LAST, "into 5 :", ALL, gives="wrote 5: 14 26 37 25 14; kept 0")
-    for verb in ["unpack", "shifted"]:
-        sheet.group(verb + ": settings whose top place is short: no word is 11, and 10 is as before")
-        for word in [0, 1, *edges(LAST)]:
-            say(verb, LAST, word, 6)
-        say(verb, LAST, ALL, 4, 10)
-        for s in SHORT[1:]:
-            say(verb, s, ALL, 2 * s[1] - 1)
 
 
 def reduce(sheet):
@@ -143,13 +111,6 @@ def reduce(sheet):
     say((37, 3, 12, 1), 123456789012345678)
     say((127, 2, 21, 66), 2**63 - 1)
     say((65535, 1, 63, 1), 2**63 - 1)
-    sheet.group("reduce: settings whose top place is short")
-    sheet.say("reduce", LAST, ":", SQUARE, gives="word 4504699340341249")
-    sheet.say("reduce", LAST, ":", ALL, gives="word 63066339648184349")
-    for word in [0, 1, *edges(LAST)[:3], 52 * 2**52, 53 * 2**52]:
-        say(LAST, word)
-    for s in SHORT[1:]:
-        say(s, ALL)
 
 
 def checked(sheet):
@@ -170,11 +131,6 @@ def checked(sheet):
     for place in [0, 1, 16383]:
         sheet.say("words", SMALL, ": all 16384 4095 but", place, ALL, gives="refused 11 %d" % place)
     sheet.say("words", SMALL, ": all 16384 4095", gives="accepted")
-    sheet.group("word and words: settings whose top place is short: no word is 11")
-    for word in [0, 2**63, ALL]:
-        sheet.say("word", LAST, ":", word, gives="accepted")
-    for s in SHORT:
-        sheet.say("words", s, ":", [0, *edges(s), ALL - 1], gives="accepted")
 
 
 def rows(sheet):

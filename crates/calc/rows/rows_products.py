@@ -2,7 +2,6 @@
 
 from document import check, largest_batch, words
 from rows import made, two_made
-from rows_places import LAST, SHORT
 
 SMALL, FOUR, LARGE = (3, 2, 4, 1), (3, 4, 9, 31), (929, 2, 21, 1)
 
@@ -60,12 +59,12 @@ def rows(sheet):
         say_made(FOUR, la, lb, la + lb - 1, 9)
 
     sheet.group("product: every n up to the largest, and the next")
-    for p, k, t, most, number in [(3, 2, 7, 15, 5), (3, 4, 9, 31, 5), (2, 2, 31, 3, 6)]:
+    for p, k, t, most in [(3, 2, 7, 15), (3, 4, 9, 31)]:
         assert largest_batch(p, k, t, most) and most * k < 126
         for n in range(1, most + 2):
-            say_made((p, k, t, n), 130, 126, 255, number if n > most else 0)
-    sheet.group("product: every coefficient p-1 at the largest n, then at settings whose top place is short")
-    for s in LARGEST + SHORT:
+            say_made((p, k, t, n), 130, 126, 255, 5 if n > most else 0)
+    sheet.group("product: every coefficient p-1 at the largest n")
+    for s in LARGEST:
         assert largest_batch(*s) and s[3] * s[1] < 300
         say(s, words("all 300", s[0] - 1), words("all 300", s[0] - 1), 599, digest=True)
     sheet.group("product: moduli")
@@ -73,13 +72,6 @@ def rows(sheet):
         assert not check(*s)
         say_made(s, 9, 8, 16)
         say_made(s, 61, 47, 107)
-    sheet.group("product: settings whose top place is short")
-    sheet.say("product", LAST, ": 52 52 52 : 52 52 52", gives="wrote 5: 1 2 3 2 1")
-    for s in SHORT:
-        say(s, [s[0] - 1] * s[1], [s[0] - 1] * (s[1] + 1), 2 * s[1])
-        say_made(s, 61, 47, 107)
-    for s, number in [((4, 3, 14, 27), 0), ((4, 3, 14, 28), 0), ((4, 3, 14, 29), 6), (LAST, 0), ((53, 3, 14, 1), 6), ((54, 3, 13, 1), 5)]:
-        say_made(s, 130, 126, 255, number)
 
     sheet.group("product: 256 coefficients and one more")
     for s in [(929, 1, 26, 77), FOUR, (2, 8, 4, 1)]:
@@ -100,7 +92,7 @@ def rows(sheet):
     for lent in [8190, 8191, 8194]:
         say_made(LARGE, 4096, 4096, lent, 10 if lent < 8191 else 0)
     sheet.group("product: 1 to 6, before 9, 8 and 10")
-    for number, s in enumerate([(1, 2, 4, 1), (3, 9, 4, 1), (3, 2, 4, 0), (3, 2, 64, 1), (3, 2, 3, 1), (3, 2, 31, 1)], 1):
+    for number, s in enumerate([(1, 2, 4, 1), (3, 9, 4, 1), (3, 2, 4, 0), (3, 2, 64, 1), (3, 2, 3, 1), (3, 2, 22, 1)], 1):
         say(s, "all 4097 9", "all 4097 9", 2, number)
     sheet.group("product: 9 before 8 and 10")
     for la, lb, number in [(4097, 1, 9), (1, 4097, 9), (4096, 4097, 9), (4096, 4096, 8)]:
@@ -126,7 +118,7 @@ def rows(sheet):
     say(FOUR, "all 4096 2", "all 4096 2", 2, 10)
 
     sheet.group("product: the longest lists")
-    for s in [(2, 8, 4, 1), FOUR, (7, 3, 12, 37), (127, 2, 21, 66), (929, 1, 63, 1048576), (65536, 1, 63, 1), LAST]:
+    for s in [(2, 8, 4, 1), FOUR, (7, 3, 12, 37), (127, 2, 21, 66), (929, 1, 63, 1048576), (65536, 1, 63, 1)]:
         say_made(s, 4096, 4096, 8191)
     say((65536, 1, 63, 1048576), "all 4096 65535", "all 4096 65535", 8191, digest=True)
     sheet.group("product: a list of 16,384 elements is lent where the line names none")

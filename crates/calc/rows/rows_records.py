@@ -2,7 +2,7 @@
 
 from document import ALL, check
 from records import MOST, Record, above, coherent
-from rows_running import EIGHT, FOUR, LARGE, ONES, SMALL, THIRD, THREES, feed, hold, repeated
+from rows_running import EIGHT, FOUR, LARGE, SMALL, THIRD, feed, hold, repeated
 from words import after
 
 # two flat lists for k = 2: lengths that differ, or are no multiple of k, and at the end lengths that will do
@@ -34,7 +34,7 @@ HELD_SETTINGS = [
     ((2, 0, 4, 1), 2, []), ((2, 1, 4, 1), 0, [0]), ((2, 9, 4, 1), 2, [0] * 9), ((2, 8, 4, 1), 0, [0] * 8),
     ((2, 1, 63, 0), 3, [0]), ((2, 1, 63, 1), 0, [0]), ((2, 1, 63, 1048577), 3, [0]), ((2, 1, 63, 1048576), 0, [0]),
     ((2, 1, 0, 1), 4, [0]), ((2, 1, 1, 1), 0, [0]), ((2, 1, 64, 1), 4, [0]), ((2, 1, 63, 1), 0, [0]),
-    ((3, 2, 5, 4), 5, [2, 2]), ((3, 2, 5, 3), 0, [2, 2]), ((3, 2, 31, 2), 6, [2, 2]), ((3, 2, 30, 2), 0, [2, 2]),
+    ((3, 2, 5, 4), 5, [2, 2]), ((3, 2, 5, 3), 0, [2, 2]), ((3, 2, 22, 2), 6, [2, 2]), ((3, 2, 21, 2), 0, [2, 2]),
 ]
 
 
@@ -74,14 +74,6 @@ CLAUSES = [
     ("fields, k = 1", LARGE, [65535], [
         (255, above(LARGE, 255, []), [], True), (255, above(LARGE, 255, [0]), [], False), (254, above(LARGE, 255, []), [], False),
         (999935, above(LARGE, 255, []), [], True), (999935, above(LARGE, 255, [0]), [], False),
-    ]),
-    # 2^((2k-1)t) is above every word here; 2^63 is 2 in a top place of two bits, the most for two pairs
-    ("fields, a short top place", THREES, [3] * 3, [
-        (27, above(THREES, 27, []), [3] * 5, True), (27, above(THREES, 27, [4]), [3] * 5, False), (27, above(THREES, 27, [0]), [3] * 5, False),
-        (27, ALL, [], False),
-    ]),
-    ("fields, a top place of two bits", ONES, [1] * 2, [
-        (2, 2**63, [1] * 3, True), (1, 2**63, [1] * 3, False), (2, above(ONES, 2, [2]), [1] * 3, False),
     ]),
     ("words", SMALL, [2, 1], [
         (0, past(SMALL), [], False), (1, past(SMALL), [], False), (1, past(SMALL) + above(SMALL, 1, []), [], False), (1, ALL, [], False),

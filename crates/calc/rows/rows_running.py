@@ -6,15 +6,12 @@ from collections import Counter
 from document import ALL, check, largest_batch, words
 from records import MOST, Record, close, pairs_of
 from rows import made, two_made
-from rows_places import LAST
 
 SMALL, SEVENS, FOUR, LARGE, EIGHT = (3, 2, 5, 2), (7, 2, 9, 4), (3, 4, 9, 31), (65536, 1, 40, 256), (2, 8, 4, 1)
 PAIR = ((1, 2), (2, 2))
 THIRD = Record(SMALL, pairs=[PAIR] * 3)
 NINE = pairs_of(2, [1, 2, 3, 4, 5, 6, 6, 0, 2, 5, 4, 3, 0, 1, 6, 6, 2, 2], [6, 5, 0, 3, 2, 1, 4, 6, 3, 3, 5, 1, 1, 2, 6, 6, 4, 4])
 WORST = ((65535,), (65535,))
-# settings whose top place is short, with several pairs in a batch
-THREES, ONES = (4, 3, 14, 28), (2, 2, 31, 3)
 
 
 def hold(sheet, record):
@@ -69,8 +66,8 @@ def examples(sheet):
     feed(sheet, sheet.calc.record, [1, 2], [2, 2])
     sheet.say("close into 3")
     sheet.group("fresh: 1 to 6, and accepted; what is handed back is held")
-    six = [(1, 2, 5, 2), (3, 9, 5, 2), (3, 2, 5, 0), (3, 2, 64, 2), (3, 2, 5, 4), (3, 2, 31, 2), (0, 0, 0, 0), (ALL, ALL, ALL, ALL)]
-    for s in six + [SMALL, (2, 1, 1, 1), EIGHT, FOUR, (929, 2, 21, 1), (65536, 1, 63, 1048576), LAST]:
+    six = [(1, 2, 5, 2), (3, 9, 5, 2), (3, 2, 5, 0), (3, 2, 64, 2), (3, 2, 5, 4), (3, 2, 22, 2), (0, 0, 0, 0), (ALL, ALL, ALL, ALL)]
+    for s in six + [SMALL, (2, 1, 1, 1), EIGHT, FOUR, (929, 2, 21, 1), (65536, 1, 63, 1048576)]:
         sheet.say("fresh", s)
         sheet.say("record")
     sheet.group("feed: six pairs in every cut, also with empty calls before each: one record")
@@ -156,7 +153,7 @@ def million(sheet):
 def largest(sheet):
     sheet.group("feed: every coefficient p-1 at the largest n")
     for s in [
-        FOUR, (127, 2, 21, 66), LARGE, EIGHT, (929, 2, 21, 1), (65536, 1, 32, 1), (7, 3, 12, 37), (3, 5, 7, 6), (2, 6, 5, 5), (2, 7, 4, 2), ONES,
+        FOUR, (127, 2, 21, 66), LARGE, EIGHT, (929, 2, 21, 1), (65536, 1, 32, 1), (7, 3, 12, 37), (3, 5, 7, 6), (2, 6, 5, 5), (2, 7, 4, 2),
     ]:
         assert largest_batch(*s)
         p, k, t, n = s
@@ -171,21 +168,6 @@ def largest(sheet):
     assert check(65536, 1, 51, 1048576) == 5
     feed_and_close(sheet, Record((65536, 1, 52, 1048576), pairs=[WORST] * 999999), [65535], [65535])
     feed_and_close(sheet, Record((65536, 1, 63, 1048576), 999999, 999999 * 65535**2, [65535]), [65535], [65535])
-
-
-def short_top(sheet):
-    sheet.group("feed: 27 pairs of threes, and the 28th")
-    assert largest_batch(*THREES)
-    sheet.say("fresh", THREES, gives="accepted")
-    sheet.say("feed : all 81 3 : all 81 3", gives="took 27")
-    sheet.say("record", gives=words("record", THREES, 27, 17512132997518295283, ":", [0] * 15))
-    sheet.say("close into 5", gives="reductions 1: 3 2 1 2 3; kept 0")
-    sheet.say("feed : 3 3 3 : 3 3 3", gives="took 1")
-    sheet.say("record", gives=words("record", THREES, 28, 0, ":", [0] * 15))
-    sheet.say("close into 5", gives="reductions 1: 0 0 0 0 0; kept 0")
-    sheet.group("feed: other pairs, one more than two batches, and batches of one")
-    feed_made(sheet, THREES, 3 * 57)
-    feed_made(sheet, LAST, 3 * 5)
 
 
 def orders(sheet):
@@ -218,5 +200,4 @@ def rows(sheet):
     batches(sheet)
     million(sheet)
     largest(sheet)
-    short_top(sheet)
     orders(sheet)

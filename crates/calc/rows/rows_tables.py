@@ -1,7 +1,7 @@
 """Rows of calc's test: correction tables."""
 
 from document import ALL, SEVEN, check, words
-from rows_places import LAST, SHORT, SIX, SQUARE, edges
+from rows_places import SIX
 from tables import table
 
 SMALL, OWN = (3, 2, 4, 1), "built 3 2 4 1"
@@ -46,11 +46,6 @@ def build(sheet):
     sheet.say("build 127 2 21 66 into 16136 digest", gives="refused 10 0; kept 16136")
     sheet.say("build 127 2 21 66 into 16137 digest")
     sheet.say("build 3 2 4 1 digest")
-    sheet.group("build: settings whose top place is short")
-    for s, lent, number in [(LAST, 2816, 10), ((128, 2, 22, 65), 16384, 14), ((2, 2, 31, 3), 12, 0), ((4, 3, 14, 28), 24, 0)]:
-        say(s, lent, number)
-    for s in [LAST, (127, 2, 22, 66)]:
-        sheet.say("build", s, "digest")
 
 
 def by_table(sheet):
@@ -104,17 +99,6 @@ def by_table(sheet):
     sheet.say("bytable", SMALL, "into 16383 digest :", OWN, ":", many, gives="refused 10 0; kept 16383")
     sheet.say("bytable", SMALL, "into 16384 digest :", OWN, ":", many)
     sheet.say("bytable", SMALL, "digest :", OWN, ":", many)
-    sheet.group("bytable: settings whose top place is short: no word is 11")
-    sheet.say("bytable", LAST, ": built 53 3 13 1 :", [SQUARE, ALL], gives="wrote 2: 4504699340341249 63066339648184349")
-    for s in SHORT + [(127, 2, 22, 66)]:
-        if s[0] <= 127:
-            say(s, words("built", s), [0, 1, *edges(s)], 7)
-    say((128, 2, 22, 65), [], [ALL], 1, 14)
-    sheet.group("bytable: 15 at such a setting, a table of another width, of another modulus, and with another last byte")
-    for other, place in [((53, 1, 12, 1), 7), ((53, 1, 14, 1), 7), ((52, 3, 13, 1), 3)]:
-        say(LAST, words("built", other), [ALL], 1, 15, place)
-    say((53, 1, 12, 1), words("built", LAST), [0], 1, 15, 7)
-    say(LAST, "built 53 3 13 1 but 2816 53", [ALL], 1, 15, 2816)
 
 
 def pick(sheet):
@@ -140,8 +124,6 @@ def pick(sheet):
         assert sheet.say("pick", s, ":", first, ":", second).split()[0] == name
     for number, s in enumerate(SIX[0], 1):
         sheet.say("pick", s, ":", OWN, ":", OWN, gives="none")
-    assert sheet.say("pick", (4, 3, 14, 28), ": built 4 1 13 1 : built 4 3 14 28").split()[0] == "second"
-    sheet.say("pick", (4, 3, 14, 29), ": built 4 1 13 1 : built 4 3 14 28", gives="none")
 
 
 def rows(sheet):

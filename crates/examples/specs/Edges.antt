@@ -2,11 +2,10 @@
 -- say, counted by hand from their words. The prover computes the first and compares, so that a limit which is changed in a definition and in the code
 -- alike is seen here.
 --     feeding, closing         the checks of a feed of one pair to a record, and of closing one; shaped, of feeding two lists of these lengths
---     wide_closing             of closing a record of p=4, k=3, t=14, n=28, whose places have 70 bits
 --     edges, edges-agree       the table, and that its two sides are the same
 --     long_edges, long-agree    the same of limits on long lists
 --     lane_edges, lane-agree    the same of the lane: 13 and 11
-use Rattle.std.specs.Prelude.{ℕ, ◌+◌, ◌-◌, ◌*◌, ◌^◌, refl, List, [], ◌∷◌, ◌++◌, map, length, replicate, take, drop}
+use Rattle.std.specs.Prelude.{ℕ, ◌+◌, ◌*◌, refl, List, [], ◌∷◌, ◌++◌, map, length, replicate, take, drop}
 use Rattle.std.specs.Float.Ieee.{in_unsigned, whole, of_int, to_unsigned}
 use Rattle.polynomials.specs.Indices.{first, rounded_up}
 use Rattle.doubles.specs.Whole.{double}
@@ -36,9 +35,6 @@ shaped m n = feed_checks (held 0 0 zeros) (replicate m 0) (replicate n 0)
 closing : ℕ → ℕ → List ℕ → Verdict
 closing total word residues = close_checks (held total word residues) 3
 
-wide_closing : ℕ → ℕ → Verdict
-wide_closing total word = close_checks (record_of (setting_of 4 3 14 28) (record { total = total; word = word; residues = zeros })) 5
-
 pub edges : List Row
 edges =
     -- 1: p from 2 to 65,536
@@ -63,23 +59,9 @@ edges =
     ∷ checking (setting_checks small) passes
     ∷ checking (setting_checks (setting_of 3 2 4 2)) (given 5)
     ∷ checking (setting_checks (setting_of 3 2 5 2)) passes
-    -- 6: the top place starts below bit 64, and n (p-1)^2 has room in what is left: 2 bits at (2k-2) t = 62, 4 at 60, 8 at 56, 12 at 52
-    ∷ checking (setting_checks (setting_of 2 2 31 3)) passes
-    ∷ checking (setting_checks (setting_of 2 2 31 4)) (given 6)
-    ∷ checking (setting_checks (setting_of 2 2 32 1)) (given 6)
-    ∷ checking (setting_checks (setting_of 2 3 15 15)) passes
-    ∷ checking (setting_checks (setting_of 2 3 15 16)) (given 6)
-    ∷ checking (setting_checks (setting_of 2 3 16 1)) (given 6)
-    ∷ checking (setting_checks (setting_of 16 3 14 1)) passes
-    ∷ checking (setting_checks (setting_of 17 3 14 1)) (given 6)
-    ∷ checking (setting_checks (setting_of 4 3 14 28)) passes
-    ∷ checking (setting_checks (setting_of 4 3 14 29)) (given 6)
-    ∷ checking (setting_checks (setting_of 53 3 13 1)) passes
-    ∷ checking (setting_checks (setting_of 53 3 14 1)) (given 6)
-    ∷ checking (setting_checks (setting_of 53 3 12 1)) (given 5)
-    ∷ checking (setting_checks (setting_of 65 3 13 1)) (given 5)
-    -- with one place alone it starts at bit 0, and has 64 bits
-    ∷ checking (setting_checks (setting_of 65536 1 63 1048576)) passes
+    -- 6: 63 bits, and the fewest above, since 64 is no odd number's multiple but of 1: 65
+    ∷ checking (setting_checks (setting_of 2 2 21 1)) passes
+    ∷ checking (setting_checks (setting_of 2 3 13 1)) (given 6)
     -- 8: below 3, in two lists; the first is searched first
     ∷ checking (coefficients_check 3 (2 ∷ 0 ∷ []) (2 ∷ 2 ∷ [])) passes
     ∷ checking (coefficients_check 3 (2 ∷ 0 ∷ []) (2 ∷ 3 ∷ [])) (8 ∷ 3 ∷ [])
@@ -118,11 +100,6 @@ edges =
     ∷ checking (words_checks small (4095 ∷ 0 ∷ [])) passes
     ∷ checking (words_checks small (4095 ∷ 4096 ∷ 4097 ∷ [])) (11 ∷ 1 ∷ [])
     ∷ checking (by_table_checks small (table_bytes 0) (4095 ∷ 4096 ∷ 4097 ∷ []) 3) (11 ∷ 1 ∷ [])
-    -- and where the places reach past 64 bits, 65 at (53, 3, 13, 1), every word
-    ∷ checking (word_checks (setting_of 53 3 13 1) (2 ^ 64 - 1)) passes
-    ∷ checking (words_checks (setting_of 53 3 13 1) (0 ∷ (2 ^ 63) ∷ (2 ^ 64 - 1) ∷ [])) passes
-    ∷ checking (word_checks (setting_of 37 3 12 1) (2 ^ 60 - 1)) passes
-    ∷ checking (word_checks (setting_of 37 3 12 1) (2 ^ 60)) (given 11)
     -- also where there is no word the setting is tested
     ∷ checking (words_checks small []) passes
     ∷ checking (words_checks (setting_of 3 2 3 1) []) (given 5)
@@ -136,11 +113,6 @@ edges =
     ∷ checking (closing 1 32768 zeros) (given 12)
     ∷ checking (closing 2 1 zeros) (given 12)
     ∷ checking (close_checks (record_of (setting_of 3 2 3 1) fresh_sum) 3) (given 12)
-    -- and where the places reach past 64 bits the fields alone bound the word: with 27 open pairs at (4, 3, 14, 28) they hold at most 243, 486, 729, 486, 243
-    ∷ checking (wide_closing 27 (243 + 486 * 2 ^ 14 + 729 * 2 ^ 28 + 486 * 2 ^ 42 + 243 * 2 ^ 56)) passes
-    ∷ checking (wide_closing 27 (243 + 486 * 2 ^ 14 + 729 * 2 ^ 28 + 486 * 2 ^ 42 + 244 * 2 ^ 56)) (given 12)
-    ∷ checking (wide_closing 27 (2 ^ 64 - 1)) (given 12)
-    ∷ checking (wide_closing 28 1) (given 12)
     ∷ checking (closing 0 0 (0 ∷ 0 ∷ 2 ∷ replicate 12 0)) passes
     ∷ checking (closing 0 0 (0 ∷ 0 ∷ 3 ∷ replicate 12 0)) (given 12)
     ∷ checking (closing 0 0 (0 ∷ 0 ∷ 0 ∷ 1 ∷ replicate 11 0)) (given 12)
@@ -185,7 +157,7 @@ edges =
     ∷ []
 
 pub edges-agree : Agree edges
-unfolding edges passes given held zeros feeding shaped closing wide_closing table_bytes header first setting_checks word_checks words_checks places_checks taken pack_answer overflow_cause factor_checks product_checks sum_cause record_cause feed_overflow pair_checks feed_checks close_checks table table_checks build_checks by_table_checks make_checks header_checks job_checks write_checks read_checks whole_sum_checks
+unfolding edges passes given held zeros feeding shaped closing table_bytes header first setting_checks word_checks words_checks places_checks taken pack_answer overflow_cause factor_checks product_checks sum_cause record_cause feed_overflow pair_checks feed_checks close_checks table table_checks build_checks by_table_checks make_checks header_checks job_checks write_checks read_checks whole_sum_checks
 edges-agree = refl
 
 -- ---- long lists

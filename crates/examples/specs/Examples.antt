@@ -4,11 +4,9 @@
 --     fed_times           a record fed one pair some times; word_after, residues_after, closing_after, what it prints of it
 --     starred            the table
 --     starred-agree      every row's two sides are the same, by computing the left ones
---     short_top, short-top-agree
---                        the same of settings whose places reach past the word, by request T-01
 --     first-works, second-idles
 --                        a feed that works on its first call and idles on the second keeps its promise on the first, and not on the second
-use Rattle.std.specs.Prelude.{ℕ, zero, suc, ◌-◌, ◌*◌, ◌^◌, ◌≡◌, refl, List, [], ◌∷◌, length, replicate, take}
+use Rattle.std.specs.Prelude.{ℕ, zero, suc, ◌*◌, ◌≡◌, refl, List, [], ◌∷◌, length, replicate, take}
 use Rattle.std.proofs.Common.{ap, arith}
 use Rattle.polynomials.specs.Indices.{upto, first, rounded_up}
 use Rattle.polynomials.specs.Places.{fields, shifted}
@@ -23,8 +21,6 @@ use Rattle.packed.specs.Overflow.{feed_overflow}
 use Rattle.packed.specs.Running.{sum_cause, record_cause, closing_at, after_pairs, fed_pairs, pair_checks, feed_checks, close_checks, kept_by, fresh_sum, record_of, Feeds}
 use Rattle.examples.specs.Compared.{Row, Agree, answering}
 use Rattle.examples.specs.Inputs.{small}
-use Rattle.settings.specs.declared.setting.Setting.{Setting}
-use Rattle.packed.specs.declared.running.Sum.{Sum}
 use Rattle.packed.specs.declared.running.Record.{Record}
 use Rattle.packed.specs.declared.running.Counted.{Counted}
 use Rattle.packed.specs.declared.running.Counted.TheVariants.{Pairs}
@@ -41,11 +37,11 @@ written vs = 0 ∷ 0 ∷ length vs ∷ vs
 choosing : ℕ → ℕ → ℕ → List ℕ → Row
 choosing p k n prints = answering (choose_answer p k n) prints
 
-packing : Setting → List ℕ → List ℕ → Row
-packing s xs prints = answering (pack_answer s xs) prints
+packing : List ℕ → List ℕ → Row
+packing xs prints = answering (pack_answer small xs) prints
 
-reducing : Setting → ℕ → List ℕ → Row
-reducing s w prints = answering (reduce_answer s w) prints
+reducing : ℕ → List ℕ → Row
+reducing w prints = answering (reduce_answer small w) prints
 
 -- new elements, into a list that has room for them and no more
 writing : (ℕ → Verdict) → List ℕ → List ℕ → Row
@@ -53,11 +49,11 @@ writing checks new prints =
     let len = length new in
     record { gives = numbers (λ m. m ∷ left_by (checks len) new (replicate len 9)) (wrote (checks len) new); prints = prints }
 
-unpacking : Setting → ℕ → List ℕ → Row
-unpacking s w prints = writing (places_checks s w) (fields (base s) (places s) w) prints
+unpacking : ℕ → List ℕ → Row
+unpacking w prints = writing (places_checks small w) (fields (base small) (places small) w) prints
 
-shifting : Setting → ℕ → List ℕ → Row
-shifting s w prints = writing (places_checks s w) (upto (places s) (shifted s.p (base s) w)) prints
+shifting : ℕ → List ℕ → Row
+shifting w prints = writing (places_checks small w) (upto (places small) (shifted small.p (base small) w)) prints
 
 building : List ℕ → Row
 building prints = writing (build_checks small) (table small.p small.t) prints
@@ -94,17 +90,14 @@ starred =
     ∷ choosing 2 8 1 (value 4)
     ∷ choosing 2 8 2 none
     ∷ choosing 37 3 1 (value 12)
-    -- by request T-01; before it (38, 3, 1) had no width
-    ∷ choosing 38 3 1 (value 13)
-    ∷ choosing 53 3 1 (value 13)
-    ∷ choosing 54 3 1 none
-    ∷ packing small (1 ∷ 2 ∷ []) (value 33)
-    ∷ packing small (2 ∷ 2 ∷ []) (value 34)
+    ∷ choosing 38 3 1 none
+    ∷ packing (1 ∷ 2 ∷ []) (value 33)
+    ∷ packing (2 ∷ 2 ∷ []) (value 34)
     ∷ record { gives = 33 * 34 ∷ []; prints = 1122 ∷ [] }
-    ∷ unpacking small 1122 (written (2 ∷ 6 ∷ 4 ∷ []))
-    ∷ shifting small 1122 (written (0 ∷ 1 ∷ 1 ∷ []))
-    ∷ reducing small 1122 (value 258)
-    ∷ unpacking small 258 (written (2 ∷ 0 ∷ 1 ∷ []))
+    ∷ unpacking 1122 (written (2 ∷ 6 ∷ 4 ∷ []))
+    ∷ shifting 1122 (written (0 ∷ 1 ∷ 1 ∷ []))
+    ∷ reducing 1122 (value 258)
+    ∷ unpacking 258 (written (2 ∷ 0 ∷ 1 ∷ []))
     ∷ building (written (0 ∷ 0 ∷ 0 ∷ 13 ∷ 1 ∷ 0 ∷ 3 ∷ 4 ∷ 0 ∷ 1 ∷ 2 ∷ 2 ∷ 0 ∷ 1 ∷ 1 ∷ 2 ∷ 0 ∷ []))
     ∷ word_after 1 4290
     ∷ word_after 2 0
@@ -117,37 +110,6 @@ starred =
 pub starred-agree : Agree starred
 unfolding starred value none written choosing packing reducing writing unpacking shifting building choose_answer none_cause smallest_width escapes first setting_checks word_checks places_checks pack_answer reduce_answer taken table table_checks build_checks fed_times word_after residues_after closing_after sum_cause record_cause after_pairs feed_overflow pair_checks feed_checks close_checks
 starred-agree = refl
-
--- ---- places that reach past the word
-
--- p = 53, k = 3, t = 13, n = 1: five places of 13 bits, and 12 bits for the top one
-abbrev meter : Setting
-meter = setting_of 53 3 13 1
-
--- p = 4, k = 3, t = 14, n = 28, and the pair (3, 3, 3), (3, 3, 3) so many times
-threes : ℕ → Sum
-threes m = after_pairs (setting_of 4 3 14 28) fresh_sum (replicate m (record { left = replicate 3 3; right = replicate 3 3 }))
-
--- worked out from the words of request T-01
-pub short_top : List Row
-short_top =
-    packing meter (52 ∷ 52 ∷ 52 ∷ []) (value 3490086964)
-    ∷ record { gives = 3490086964 * 3490086964 ∷ []; prints = 12180707016282737296 ∷ [] }
-    ∷ unpacking meter 12180707016282737296 (written (2704 ∷ 5408 ∷ 8112 ∷ 5408 ∷ 2704 ∷ []))
-    ∷ reducing meter 12180707016282737296 (value 4504699340341249)
-    -- the full word
-    ∷ record { gives = (2 ^ 64 - 1) ∷ []; prints = 18446744073709551615 ∷ [] }
-    ∷ unpacking meter 18446744073709551615 (written (8191 ∷ 8191 ∷ 8191 ∷ 8191 ∷ 4095 ∷ []))
-    ∷ shifting meter 18446744073709551615 (written (14 ∷ 26 ∷ 37 ∷ 25 ∷ 14 ∷ []))
-    ∷ reducing meter 18446744073709551615 (value 63066339648184349)
-    -- a batch of 28, one pair before its end and at it
-    ∷ record { gives = (threes 27).word ∷ []; prints = 17512132997518295283 ∷ [] }
-    ∷ record { gives = (threes 28).word ∷ take 5 (threes 28).residues; prints = 0 ∷ 0 ∷ 0 ∷ 0 ∷ 0 ∷ 0 ∷ [] }
-    ∷ []
-
-pub short-top-agree : Agree short_top
-unfolding short_top threes value written packing reducing writing unpacking shifting first setting_checks word_checks places_checks pack_answer reduce_answer taken after_pairs
-short-top-agree = refl
 
 -- ---- a feed that works on its first call and idles after
 

@@ -70,7 +70,7 @@ orders =
     -- close: 12, 10
     ∷ checking (close_checks (held 1000001 0 zeros) 0) (given 12)
     -- make: 1 to 6, 16
-    ∷ checking (make_checks (setting_of 2 2 32 1)) (given 6)
+    ∷ checking (make_checks (setting_of 2 2 22 1)) (given 6)
     -- job: 17 of the header, 1 to 6, 17 of the pairs' bytes, 13, 8, 17 of the end
     ∷ checking (job_checks (take 4 (header 12) ++ (2 ∷ 0 ∷ []))) (given 17)
     ∷ checking (job_checks (take 4 (header 12) ++ (2 ∷ 0 ∷ 0 ∷ 0 ∷ 0 ∷ drop 9 (header 12)))) (given 17)

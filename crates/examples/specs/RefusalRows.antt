@@ -30,7 +30,7 @@ refusal_rows =
     ∷ checking (setting_checks (setting_of 2 1 0 0)) (3 ∷ 0 ∷ [])
     ∷ checking (setting_checks (setting_of 2 1 0 1)) (4 ∷ 0 ∷ [])
     ∷ checking (setting_checks (setting_of 2 1 1 2)) (5 ∷ 0 ∷ [])
-    ∷ checking (setting_checks (setting_of 2 2 32 1)) (6 ∷ 0 ∷ [])
+    ∷ checking (setting_checks (setting_of 2 2 22 1)) (6 ∷ 0 ∷ [])
     ∷ answering (choose_answer 2 8 2) (7 ∷ 0 ∷ [])
     -- in one list, and in the second of two
     ∷ answering (pack_answer (setting_of 2 2 2 1) (1 ∷ 2 ∷ [])) (8 ∷ 1 ∷ [])

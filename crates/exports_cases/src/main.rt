@@ -28,7 +28,6 @@ fn choices() {
     show_choice(3, 4, 32);
     show_choice(929, 2, 1);
     show_choice(65536, 1, 1);
-    show_choice(53, 3, 1);
     show_choice(1, 4, 31);
     show_choice(3, 9, 31);
     show_choice(3, 4, 0);
@@ -49,7 +48,7 @@ fn unpacking() {
     show_unpack(3, 2, 4, 1, 1122, &mut [7; 5]);
     show_unpack(3, 2, 4, 1, 1122, &mut [7; 2]);
     show_unpack(3, 2, 4, 1, 4096, &mut [7; 2]);
-    show_unpack(3, 2, 31, 1, 4096, &mut [7; 2]);
+    show_unpack(3, 2, 22, 1, 4096, &mut [7; 2]);
 }
 
 fn reductions() {
@@ -57,7 +56,6 @@ fn reductions() {
     show_reduce(3, 2, 4, 1, 4095);
     show_reduce(3, 2, 4, 1, 4096);
     show_reduce(3, 2, 64, 1, 1122);
-    show_reduce(53, 3, 13, 1, ALL);
 }
 
 fn tables() {
@@ -158,7 +156,7 @@ fn lane_reductions() {
     show_lane_reduce(3, 2, 4, 1, -0.0, 0.0);
     show_lane_reduce(3, 2, 4, 1, 0.5, 0.0);
     show_lane_reduce(3, 2, 18, 1, 0.5, 0.0);
-    show_lane_reduce(3, 2, 31, 1, 0.5, 0.0);
+    show_lane_reduce(3, 2, 22, 1, 0.5, 0.0);
 }
 
 fn show_choice(p: u64, k: u64, n: u64) {

@@ -1,6 +1,5 @@
 -- Where the lane answers: exactly where none of its causes holds, in words. Assumes nothing.
 --     lane-exactly                   make refuses nothing exactly for settings that 1 to 6 leave whose words have fewer than 53 bits
---     lane-as-before                 that is, exactly for those of before request T-01, which widened 6: no setting whose places reach past the word is one
 --     sum-exactly                    sum refuses nothing exactly where the record is not 12 and the lists are at most n whole pairs below p
 --     ProperWord s x                 x is the double of a whole number below 2^((2k-1)t)
 --     improper-exactly               11 is not given exactly for these doubles
@@ -21,8 +20,8 @@ use Rattle.doubles.specs.Whole.{double, whole_part, is_whole, Held}
 use Rattle.doubles.specs.Exactly.{held_number, held_whole, whole-held}
 use Rattle.settings.specs.Answers.{answered, fine, refuse, Given}
 use Rattle.settings.specs.AnswerLaws.{passed, passed_first, passed-last, given-check, given-then}
-use Rattle.settings.specs.Settings.{setting_checks, base, batch_top, span_of, InRange}
-use Rattle.settings.specs.Bounds.{Rows, rows-exactly, no-setting-lost}
+use Rattle.settings.specs.Settings.{setting_checks, base, span_of}
+use Rattle.settings.specs.Bounds.{Rows, rows-exactly}
 use Rattle.settings.specs.Coefficients.{coefficients-check, coefficients-gives}
 use Rattle.packed.specs.Running.{pairs_cause}
 use Rattle.packed.specs.RunningChecks.{pairs-shape}
@@ -45,12 +44,6 @@ lane-exactly s = (
   λ e. let a = passed_first (setting_checks s) (refuse (lane_cause s) 16 0) tt e in
       ((rows-exactly s).0 a.0, leb-false lane_bits (span_of s) (passed-last (lane_cause s) 16 0 a.1)),
   λ h. rw ((rows-exactly s).1 h.0, lt-leb lane_bits (span_of s) h.1),
-)
-
-pub lane-as-before : (s : Setting) → (make_checks s ≡ fine) ↔ (InRange s × (batch_top s < base s) × (span_of s < lane_bits))
-lane-as-before s = (
-  λ e. let h = (lane-exactly s).0 e in (h.0.range, h.0.wide, h.1),
-  λ h. (lane-exactly s).1 ((rows-exactly s).0 (no-setting-lost s h.0 h.1 (omega (arith, h.2))), h.2),
 )
 
 pub make-answers : (s : Setting) (r : Made) → Rows s → span_of s < lane_bits → Makes s r → r ≡ in_made.Lane (lane_of s)

@@ -1,7 +1,6 @@
 -- What passing the checks of product says, and what follows from its promise. Assumes nothing.
 --     Factors s a b len     what holds where nothing is refused up to 10
 --     factors-checked       so it is
---     factors-last          10 is asked last, and not of a list of just the product's length
 --     product-refused       what is refused up to 10 is what product refuses
 --     product-fine          and where nothing is, 18 does not hold either: product refuses nothing
 --     product-some          a product that has a coefficient has two factors that do
@@ -9,14 +8,14 @@
 --     product-checks-same   accepted settings with one p refuse the same lists, with the same number and place
 --     product-by-modulus    so two accepted settings with one p give one answer and one list
 use Rattle.std.specs.Prelude.{ℕ, zero, suc, ◌+◌, ◌-◌, ◌≤◌, ◌<◌, ◌≡◌, refl, List, ltb, length}
-use Rattle.std.proofs.Common.{sym, ap, ◌∙◌, arith, ltb-false, le-ltb}
+use Rattle.std.proofs.Common.{sym, ap, ◌∙◌, arith, ltb-false}
 use Rattle.std.proofs.Math.Path.{fun_ext}
 use Rattle.polynomials.specs.Tests.{neither}
 use Rattle.polynomials.specs.Indices.{filled}
 use Rattle.polynomials.specs.Lists.{coefficient, product_length, product, residues, Below}
 use Rattle.polynomials.specs.ListLaws.{length-residues, length-product, coefficient-residues, coefficient-product}
 use Rattle.settings.specs.Limits.{longest_factor}
-use Rattle.settings.specs.Answers.{Verdict, answered, fine, refused, refuse, ◌and_then◌}
+use Rattle.settings.specs.Answers.{Verdict, answered, fine, refused}
 use Rattle.settings.specs.AnswerLaws.{passed, passed_first, passed-last}
 use Rattle.settings.specs.SharedAnswers.{short_cause, writes-once, writes-list}
 use Rattle.settings.specs.Settings.{setting_checks}
@@ -53,19 +52,6 @@ factors-checked s a b len e =
       right_below = below.1;
       room = ltb-false len (product_length (length a) (length b)) (passed-last (short_cause (product_length (length a) (length b)) len) 10 0 third.1);
     }
-
-last-asked : (x y z last : Verdict) → (x and_then y and_then z and_then last) ≡ ((x and_then y and_then z and_then fine) and_then last)
-last-asked (answered u) (answered v) (answered w) last = refl
-last-asked (answered u) (answered v) (refused number place) last = refl
-last-asked (answered u) (refused number place) z last = refl
-last-asked (refused number place) y z last = refl
-
-pub factors-last : (s : Setting) (a b : List ℕ) (len : ℕ)
-    → factor_checks s a b len ≡ (factor_checks s a b (product_length (length a) (length b)) and_then refuse (short_cause (product_length (length a) (length b)) len) 10 0)
-unfolding factor_checks
-factors-last s a b len =
-    let m : ℕ = product_length (length a) (length b) in
-    rw (le-ltb m m (omega arith)) (last-asked (setting_checks s) (refuse (factors_cause (length a) (length b)) 9 0) (coefficients_check s.p a b) (refuse (short_cause m len) 10 0))
 
 pub product-refused : (s : Setting) (a b : List ℕ) (len number place : ℕ) → factor_checks s a b len ≡ refused number place → product_checks s a b len ≡ refused number place
 unfolding product_checks

@@ -3,7 +3,6 @@
 --     residue_most, residues_cause    residues below p, and zero from index 2k-1 on; that one is not
 --     field_most, fields_cause        field j of the word at most r min(j+1, 2k-1-j) (p-1)^2; that one is not
 --     sum_cause, record_cause         12 Record: a record that is not coherent
---     record-unbounded              where (2k-1) t is 64 or more, the bound of the word falls away
 --     Coherent s u                  coherent, in words: RunningLaws shows that 12 is given exactly where it does not hold
 --     closing_of p q w rs j          (residue + field) mod p; closing_at s u j, of a sum
 --     split s u                     the word is split, its fields are added to the residues modulo p, and the word is zero
@@ -21,19 +20,18 @@
 --     Freshens, Feeds, Closes       the promises of fresh, feed, close; fresh-once, feed-once, close-once: each allows one result only
 use Rattle.std.specs.Prelude.{ℕ, ◌+◌, ◌-◌, ◌*◌, ◌/◌, ◌%◌, ◌^◌, ◌≤◌, ◌<◌, ◌≡◌, refl, Bool, not, ◌||◌, List, [], ◌∷◌, ltb, eqb, length, replicate}
 use Rattle.std.proofs.Common.{sym, ap, ◌∙◌}
-use Rattle.std.proofs.Math.Bool.{or-false}
 use Rattle.polynomials.specs.Indices.{pick, upto, filled, exceeds, rounded_up}
 use Rattle.polynomials.specs.Lists.{coefficient, Below, Pair, batch_most}
 use Rattle.polynomials.specs.Places.{packed, field}
 use Rattle.polynomials.specs.Pairs.{pairs_of}
-use Rattle.settings.specs.Limits.{most_pairs, residue_places, word_bits}
+use Rattle.settings.specs.Limits.{most_pairs, residue_places}
 use Rattle.settings.specs.Answers.{Answer, answered, refused, Verdict, fine, refuse, refuses, ◌and_then◌, left_by, Given}
 use Rattle.settings.specs.AnswerLaws.{once, given-check, given-then}
 use Rattle.settings.specs.SharedAnswers.{short_cause}
 use Rattle.settings.specs.Settings.{setting_checks, base, places, span_of, checked_says, check-once}
 use Rattle.settings.specs.Coefficients.{coefficients_check, coefficients-gives}
 use Rattle.packed.specs.Taken.{taken}
-use Rattle.words.specs.Places.{word_cause, word-always}
+use Rattle.words.specs.Places.{word_cause}
 use Rattle.packed.specs.Overflow.{feed_overflow}
 use Rattle.settings.specs.declared.setting.Setting.{Setting}
 use Rattle.settings.specs.declared.setting.Checked.{Checked}
@@ -65,11 +63,6 @@ fields_cause s r w = exceeds (places s) (field (base s) w) (field_most s r)
 
 unfoldable pub sum_cause : Setting → Sum → Bool
 sum_cause s u = ltb most_pairs u.total || (residues_cause s u.residues || (fields_cause s (open_pairs s u) u.word || word_cause s u.word))
-
-pub record-unbounded : (s : Setting) (u : Sum) → word_bits ≤ span_of s → u.word < 2 ^ word_bits
-    → sum_cause s u ≡ ltb most_pairs u.total || (residues_cause s u.residues || fields_cause s (open_pairs s u) u.word)
-unfolding sum_cause
-record-unbounded s u h l = rw (word-always s u.word h l, or-false)
 
 unfoldable pub record_cause : Record → Bool
 record_cause r = refuses (setting_checks r.setting) || sum_cause r.setting r.sum

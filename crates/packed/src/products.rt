@@ -28,15 +28,12 @@ const SUMS_BEYOND: usize = 64;
 pub fn product(s: Setting, a: &[u16], b: &[u16], out: &mut [u16]) -> Wrote
     ensures { Multiplies s a.now b.now out.old result out.new }
 {
-    if let Checked::Refused(r) = check_factors(s, a, b) {
+    if let Checked::Refused(r) = check_factors(s, a, b, out.len()) {
         return Wrote::Refused(r);
     }
     let m = product_length(a.len(), b.len());
     if m == 0 {
         return Wrote::Count(0);
-    }
-    if out.len() < m {
-        return Wrote::Refused(refusals::SHORT);
     }
     let fits = multiply(s, a, b, out);
     if !fits {
@@ -45,9 +42,9 @@ pub fn product(s: Setting, a: &[u16], b: &[u16], out: &mut [u16]) -> Wrote
     Wrote::Count(m)
 }
 
-// The setting's checks, then 9 and 8: those before 10, which are all that a list of just the product's length is asked.
-fn check_factors(s: Setting, a: &[u16], b: &[u16]) -> Checked
-    ensures { checked_says result ≡ factor_checks s a.now b.now (product_length (length a.now) (length b.now)) }
+// The setting's checks, then 9, 8, 10, where a list of len elements is lent for the product.
+fn check_factors(s: Setting, a: &[u16], b: &[u16], len: usize) -> Checked
+    ensures { checked_says result ≡ factor_checks s a.now b.now len }
 {
     if let Checked::Refused(r) = check(s) {
         return Checked::Refused(r);
@@ -58,7 +55,13 @@ fn check_factors(s: Setting, a: &[u16], b: &[u16]) -> Checked
     if LONGEST_FACTOR < b.len() {
         return Checked::Refused(refusals::SHAPE);
     }
-    check_coefficients(s.p, a, b)
+    if let Checked::Refused(r) = check_coefficients(s.p, a, b) {
+        return Checked::Refused(r);
+    }
+    if len < product_length(a.len(), b.len()) {
+        return Checked::Refused(refusals::SHORT);
+    }
+    Checked::Accepted
 }
 
 // la + lb - 1, or none if either list is empty.

@@ -1,8 +1,8 @@
 // The running record: pairs of polynomials are fed in calls of any size, and closing gives the sum of their products.
-ghost use Rattle.std.specs.Prelude.{◌≡◌, false, ◌||◌, ◌-◌, ◌*◌, ◌<◌};
-ghost use Rattle.settings.specs.Settings.{checked_says};
+ghost use Rattle.std.specs.Prelude.{◌≡◌, false, ◌-◌, ◌*◌, ◌<◌};
+ghost use Rattle.settings.specs.Answers.{fine};
+ghost use Rattle.settings.specs.Settings.{setting_checks, checked_says};
 ghost use Rattle.settings.specs.Bounds.{Bounds};
-ghost use Rattle.words.specs.Places.{word_cause};
 ghost use Rattle.packed.specs.Running.{record_cause, sum_cause, residue_most, residues_cause, fields_cause, field_most, pair_checks, close_checks, Freshens, Feeds, Closes};
 
 use crate::arithmetic::{least, places, power, rounded_up, wide};
@@ -12,6 +12,7 @@ use settings::limits::{MOST_PAIRS, RESIDUE_PLACES};
 use settings::refusals;
 use settings::refusals::Refusal;
 use settings::setting::{Checked, Setting, check};
+use words::check_word;
 
 // What was added up: how many pairs, the word of the open batch, unreduced, and the residues of the full batches.
 #[derive(Drop)]
@@ -166,7 +167,7 @@ fn record_cause(running: Record) -> bool
 
 // Its part that is not the setting's, which nothing refuses.
 fn sum_cause(s: Setting, sum: Sum) -> bool
-    requires { Bounds s }
+    requires { setting_checks s ≡ fine }
     ensures { result ≡ sum_cause s sum }
 {
     if MOST_PAIRS < sum.total {
@@ -176,7 +177,13 @@ fn sum_cause(s: Setting, sum: Sum) -> bool
     if residues_cause(s, &residues) {
         return true;
     }
-    open_word_cause(s, sum.total % s.n, sum.word)
+    if fields_cause(s, sum.total % s.n, sum.word) {
+        return true;
+    }
+    if let Checked::Refused(r) = check_word(s, sum.word) {
+        return true;
+    }
+    false
 }
 
 // A residue of p or more, or one from index 2k-1 on that is not zero.
@@ -205,10 +212,10 @@ fn residue_most(s: Setting, j: usize) -> u64
     0
 }
 
-// A field above what pairs, fewer than a batch, can add up to; or 11's cause, which is that something is left above the last place.
-fn open_word_cause(s: Setting, pairs: u64, word: u64) -> bool
+// A field above what pairs, fewer than a batch, can add up to.
+fn fields_cause(s: Setting, pairs: u64, word: u64) -> bool
     requires { Bounds s × (pairs < s.n) }
-    ensures { result ≡ (fields_cause s pairs word || word_cause s word) }
+    ensures { result ≡ fields_cause s pairs word }
 {
     let m = places(s.k);
     let q = power(s.t);
@@ -221,7 +228,7 @@ fn open_word_cause(s: Setting, pairs: u64, word: u64) -> bool
         rest = rest >> s.t;
         j += 1;
     }
-    0 < rest
+    false
 }
 
 // r min(j+1, 2k-1-j) (p-1)^2, for r pairs.

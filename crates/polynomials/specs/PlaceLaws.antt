@@ -18,9 +18,10 @@
 --     packed-same                  lists that pack to one number in every base have the same coefficients
 --     packed-below                 fields below q: a number below q^m, for m of them
 --     packed-top                   lower fields below q and the top one at most c: a number below (c + 1) q^m
+--     top-place                    a number reaches q^(m+1) exactly where what stands from place m on reaches q
 --     power-power                  place i of the base b^t starts at b^(i t)
-use Rattle.std.specs.Prelude.{ℕ, zero, suc, ◌+◌, ◌-◌, ◌*◌, ◌/◌, ◌%◌, ◌^◌, ◌≤◌, ◌<◌, ◌≡◌, refl, List, [], ◌∷◌, ◌++◌, length, drop, replicate}
-use Rattle.std.proofs.Common.{zero-le, sym, ◌∙◌, append-nil, zero-add, add-zero, zero-mul, mul-zero, mul-one, mul_comm, mul-le-mul_left, le-mul_of_pos_right, le_antisymm, mul-pos, suc-mul, pow-suc, div-one, mod-eq_of_lt, add-one, arith, length-append, pow-add, drop-cons}
+use Rattle.std.specs.Prelude.{ℕ, zero, suc, ◌+◌, ◌-◌, ◌*◌, ◌/◌, ◌%◌, ◌^◌, ◌≤◌, ◌<◌, ◌≡◌, refl, List, [], ◌∷◌, ◌++◌, ◌↔◌, length, drop, replicate}
+use Rattle.std.proofs.Common.{zero-le, sym, ◌∙◌, append-nil, zero-add, add-zero, zero-mul, mul-zero, mul-one, mul_comm, mul-le-mul_left, le-mul_of_pos_right, le_antisymm, mul-pos, suc-mul, pow-suc, div-one, mod-eq_of_lt, le-div_iff_mul-le, add-one, arith, length-append, pow-add, drop-cons}
 use Rattle.std.proofs.Math.Nat.{pow-zero, pow-succ', zero-mod, mod-le, zero-div, mod-one, div-eq_of_lt, add-mul-div_left, add-mul-mod_self_left, div-div-eq-div-mul, one-le-pow}
 use Rattle.std.proofs.Math.Decide.{dec_lt}
 use Rattle.std.proofs.Math.Arith.{mod-mul}
@@ -176,6 +177,11 @@ packed-top q c (suc m) [] low top past = mul-pos (omega arith) (one-le-pow (suc 
 packed-top q c (suc m) (x ∷ xs) low top past =
     let rest : packed q xs < (c + 1) * q ^ m = packed-top q c m xs (λ j h. low (suc j) (omega arith)) top (λ j h. past (suc j) (omega arith)) in
     rw pow-succ' (omega (arith, mul-le-mul_left q rest, low 0 (omega arith)))
+
+pub top-place : (q m r : ℕ) → 0 < q → (q ^ suc m ≤ r) ↔ (q ≤ r / q ^ m)
+top-place q m r hq =
+    let reach = le-div_iff_mul-le {x = q} {y = r} (one-le-pow m q hq) in
+    (λ h. reach.1 (rw pow-succ' at h), λ h. rw pow-succ' (reach.0 h))
 
 pub power-power : (b t i : ℕ) → (b ^ t) ^ i ≡ b ^ (i * t)
 power-power b t zero = rw (pow-zero, zero-mul, pow-zero)

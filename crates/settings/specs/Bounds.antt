@@ -2,16 +2,14 @@
 --     Bounds s       the ranges of p, k, t, n; and, from 5 and 6, that fields, words and batches fit
 --     Rows s         what 1 to 6 leave, row by row, in numbers
 --     rows-exactly   check accepts exactly these settings: with bounds, the one law that looks into 5 and 6
---     no-setting-lost
---                    whatever 6 accepted as first written, (2k-1) t below 64, is accepted
 --     bounds         a setting that no check refuses has these bounds
 --     batch-within   the coefficients of a sum of up to n products are bounded as fields are
 --     pairs-fit      the packed products of up to n pairs add up to less than 2^64
-use Rattle.std.specs.Prelude.{ℕ, ◌+◌, ◌-◌, ◌*◌, ◌^◌, ◌≤◌, ◌<◌, min, ◌≡◌, List, ◌↔◌, leb, length}
-use Rattle.std.proofs.Common.{le_trans, lt_of_le_of_lt, lt_of_lt_of_le, le-mul_of_pos_right, mul-le-mul_right, mul-le-mul, mul-pos, mul_comm, one-mul, arith, pow_mono, leb-false}
+use Rattle.std.specs.Prelude.{ℕ, suc, ◌+◌, ◌-◌, ◌*◌, ◌^◌, ◌≤◌, ◌<◌, ◌≡◌, List, ◌↔◌, length}
+use Rattle.std.proofs.Common.{sym, ◌∙◌, le_trans, lt_of_le_of_lt, lt_of_lt_of_le, le-mul_of_pos_right, mul-le-mul_right, mul-le-mul, mul-pos, mul_comm, arith, pow_mono, leb-false}
+use Rattle.std.proofs.Math.Nat.{pow-succ'}
 use Rattle.std.proofs.Math.Decide.{dec_lt}
 use Rattle.std.proofs.lemmas.Bool.{lt-leb}
-use Rattle.polynomials.specs.Tests.{neither}
 use Rattle.polynomials.specs.Lists.{coefficient, product, Within, Operand, Pair, Pairs, sum_of_products, batch_most}
 use Rattle.polynomials.specs.Places.{packed, sum_of_words}
 use Rattle.polynomials.specs.BoundLaws.{product-most, batch-most, batch-more, batch-narrow, batch-past}
@@ -19,8 +17,8 @@ use Rattle.polynomials.specs.PlaceLaws.{packed-product, packed-sum_of_products, 
 use Rattle.settings.specs.Limits.{largest_modulus, most_coefficients, largest_batch, widest, word_bits}
 use Rattle.settings.specs.Answers.{fine}
 use Rattle.settings.specs.AnswerLaws.{passed, passed-last}
-use Rattle.settings.specs.Settings.{modulus_cause, length_cause, batch_cause, width_cause, narrow_cause, room_cause, setting_checks, base, batch_top, span_of, top_place, top_most, InRange}
-use Rattle.settings.specs.SettingLaws.{range-passes, in-choice, in-range, span-top, word-parted}
+use Rattle.settings.specs.Settings.{modulus_cause, length_cause, batch_cause, width_cause, narrow_cause, room_cause, setting_checks, base, batch_top, span_of, InRange}
+use Rattle.settings.specs.SettingLaws.{range-passes, in-choice, in-range}
 use Rattle.settings.specs.declared.setting.Setting.{Setting}
 
 pub record Bounds (s : Setting) : Type 0 where
@@ -28,7 +26,7 @@ pub record Bounds (s : Setting) : Type 0 where
   -- a coefficient is below the base
   pub coefficient_fits : s.p ≤ base s
   -- the last place starts within the word
-  pub last_place : top_place s < word_bits
+  pub last_place : (2 * s.k - 2) * s.t < word_bits
   -- every field of a batch is below the base
   pub field_fits : (j : ℕ) → batch_most s.p s.k s.n j < base s
   -- the word of a batch is below 2^64
@@ -40,8 +38,7 @@ pub record Bounds (s : Setting) : Type 0 where
 pub record Rows (s : Setting) : Type 0 where
   pub range : InRange s
   pub wide : batch_top s < base s
-  pub last : top_place s < word_bits
-  pub room : top_most s < 2 ^ (word_bits - top_place s)
+  pub room : span_of s < word_bits
 
 rows : (s : Setting) → setting_checks s ≡ fine → Rows s
 unfolding setting_checks
@@ -51,12 +48,11 @@ rows s e =
     let c = passed (batch_cause s.n) 3 0 _ tt b.1 in
     let d = passed (width_cause s.t) 4 0 _ tt c.1 in
     let f = passed (narrow_cause s) 5 0 _ tt d.1 in
-    let g = neither (leb word_bits (top_place s)) (leb (2 ^ (word_bits - top_place s)) (top_most s)) (passed-last (room_cause s) 6 0 f.1) in
+    let g = passed-last (room_cause s) 6 0 f.1 in
     record {
       range = in-range s (in-choice s.p s.k s.n a.0 b.0 c.0) d.0;
       wide = leb-false (base s) (batch_top s) f.0;
-      last = leb-false word_bits (top_place s) g.0;
-      room = leb-false (2 ^ (word_bits - top_place s)) (top_most s) g.1;
+      room = leb-false word_bits (span_of s) g;
     }
 
 pub rows-exactly : (s : Setting) → (setting_checks s ≡ fine) ↔ Rows s
@@ -69,17 +65,9 @@ rows-exactly s = (
     range-passes 1 largest_batch s.n r.range.choice.n_low r.range.choice.n_high,
     range-passes 1 widest s.t r.range.t_low r.range.t_high,
     lt-leb (base s) (batch_top s) r.wide,
-    lt-leb word_bits (top_place s) r.last,
-    lt-leb (2 ^ (word_bits - top_place s)) (top_most s) r.room,
+    lt-leb word_bits (span_of s) r.room,
   ),
 )
-
-pub no-setting-lost : (s : Setting) → InRange s → batch_top s < base s → span_of s < word_bits → setting_checks s ≡ fine
-no-setting-lost s i w h =
-    let span : top_place s + s.t ≡ span_of s = span-top s i.choice.k_low in
-    let one : top_most s ≤ batch_top s = mul-le-mul_right ((s.p - 1) * (s.p - 1)) (le-mul_of_pos_right s.n i.choice.k_low) in
-    let q : base s ≤ 2 ^ (word_bits - top_place s) = pow_mono {j = word_bits - top_place s} (omega (arith, h, span)) in
-    (rows-exactly s).1 (record { range = i; wide = w; last = omega (arith, h, span); room = lt_of_lt_of_le (lt_of_le_of_lt one w) q })
 
 module _ (s : Setting) (r : Rows s) where
   coefficient-below : s.p ≤ base s
@@ -92,16 +80,17 @@ module _ (s : Setting) (r : Rows s) where
   field_below : (j : ℕ) → batch_most s.p s.k s.n j < base s
   field_below j = lt_of_le_of_lt (batch-narrow s.p s.k s.n j) r.wide
 
-  -- the fields below the top one are below the base, and the top one has the bits that are left
+  -- all 2k-1 fields below the base, in a word of (2k-1) t bits
   batch-below : (xs : List ℕ) → Within (batch_most s.p s.k s.n) xs → packed (base s) xs < 2 ^ 64
   batch-below xs w =
       let m : ℕ = 2 * s.k - 2 in
-      let one : min (m + 1) (2 * s.k - 1 - m) ≡ 1 = omega (arith, r.range.choice.k_low) in
-      let top : coefficient xs m ≤ top_most s = rw (one, one-mul) at (w m) in
+      let last : suc m ≡ 2 * s.k - 1 = omega (arith, r.range.choice.k_low) in
+      let below : (j : ℕ) → coefficient xs j < base s = λ j. lt_of_le_of_lt (w j) (field_below j) in
       let past : (j : ℕ) → m < j → coefficient xs j ≡ 0 = λ j h. omega (arith, w j, batch-past s.p s.k s.n j (omega arith)) in
-      let number : packed (base s) xs < (top_most s + 1) * base s ^ m = packed-top (base s) (top_most s) m xs (λ j h. lt_of_le_of_lt (w j) (field_below j)) top past in
-      let room : (top_most s + 1) * 2 ^ top_place s ≤ 2 ^ (word_bits - top_place s) * 2 ^ top_place s = mul-le-mul_right (2 ^ top_place s) (omega (arith, r.room)) in
-      lt_of_lt_of_le (rw (power-power 2 s.t m) at number) (rw (word-parted (top_place s) r.last) at room)
+      let top : base s - 1 + 1 ≡ base s = omega (arith, below 0) in
+      let number : packed (base s) xs < base s * base s ^ m = rw top at (packed-top (base s) (base s - 1) m xs (λ j h. below j) (omega (arith, below m)) past) in
+      let bits : base s * base s ^ m ≡ 2 ^ span_of s = sym (pow-succ' (base s) m) ∙ power-power 2 s.t (suc m) ∙ rw last in
+      lt_of_lt_of_le (rw bits at number) (pow_mono {j = 64} (omega (arith, r.room)))
 
   -- squared, it is the word of a product, and so below 2^64
   word_below : (xs : List ℕ) → Operand s.p s.k xs → packed (base s) xs < 2 ^ 32
@@ -123,7 +112,7 @@ bounds s e =
     record {
       range = r.range;
       coefficient_fits = coefficient-below s r;
-      last_place = r.last;
+      last_place = lt_of_le_of_lt (mul-le-mul_right {m = 2 * s.k - 2} {n = 2 * s.k - 1} s.t (omega arith)) r.room;
       field_fits = field_below s r;
       batch_fits = batch-below s r;
       word_fits = word_below s r;

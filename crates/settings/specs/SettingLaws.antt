@@ -2,15 +2,11 @@
 --     range-says, range-passes
 --                             what a range's test says, and what passes it
 --     in-choice, in-range     what passes 1 to 3, and 1 to 4, is in range
---     span-top                the top place has t bits, and below it are the others
---     word-parted             a word is parted by any of its bits into what stands below and what is left above
---     room-halved             the second half of 6 without a number of 65 bits
-use Rattle.std.specs.Prelude.{ℕ, suc, ◌+◌, ◌-◌, ◌*◌, ◌/◌, ◌^◌, ◌≤◌, ◌<◌, ◌≡◌, false, ltb, leb}
-use Rattle.std.proofs.Common.{sym, ap, ◌∙◌, suc-mul, arith, pow_pos, pow-add, ltb-false, le-ltb}
-use Rattle.std.proofs.Math.Nat.{pow-succ'}
-use Rattle.polynomials.specs.Tests.{neither, quotient-tested}
-use Rattle.settings.specs.Limits.{largest_modulus, most_coefficients, largest_batch, widest, word_bits}
-use Rattle.settings.specs.Settings.{outside, modulus_cause, length_cause, batch_cause, width_cause, span_of, top_place, InChoice, InRange}
+use Rattle.std.specs.Prelude.{ℕ, ◌≤◌, ◌≡◌, false, ltb}
+use Rattle.std.proofs.Common.{ltb-false, le-ltb}
+use Rattle.polynomials.specs.Tests.{neither}
+use Rattle.settings.specs.Limits.{largest_modulus, most_coefficients, largest_batch, widest}
+use Rattle.settings.specs.Settings.{outside, modulus_cause, length_cause, batch_cause, width_cause, InChoice, InRange}
 use Rattle.settings.specs.declared.setting.Setting.{Setting}
 
 pub range-says : (low high x : ℕ) → outside low high x ≡ false → (low ≤ x) × (x ≤ high)
@@ -28,14 +24,3 @@ in-choice p k n m l b =
 
 pub in-range : (s : Setting) → InChoice s.p s.k s.n → width_cause s.t ≡ false → InRange s
 in-range s c w = let h = range-says 1 widest s.t w in record { choice = c; t_low = h.0; t_high = h.1 }
-
-pub span-top : (s : Setting) → 1 ≤ s.k → top_place s + s.t ≡ span_of s
-span-top s h =
-    let all : suc (2 * s.k - 2) ≡ 2 * s.k - 1 = omega arith in
-    sym (suc-mul (2 * s.k - 2) s.t) ∙ ap (λ (m : ℕ). m * s.t) all
-
-pub word-parted : (start : ℕ) → start < word_bits → 2 ^ (word_bits - start) * 2 ^ start ≡ 2 ^ word_bits
-word-parted start h = let all : word_bits - start + start ≡ word_bits = omega arith in sym (pow-add 2 (word_bits - start) start) ∙ ap (λ (n : ℕ). 2 ^ n) all
-
-pub room-halved : (start most : ℕ) → start < word_bits → leb (2 ^ (word_bits - start)) most ≡ leb 2 (most / 2 ^ (word_bits - 1 - start))
-room-halved start most h = let bits : word_bits - start ≡ suc (word_bits - 1 - start) = omega arith in rw (bits, pow-succ') (quotient-tested 2 (2 ^ (word_bits - 1 - start)) most (pow_pos (word_bits - 1 - start)))

@@ -5,18 +5,14 @@
 --     batch_cause n      3 Batch: n outside 1..1,048,576
 --     width_cause t      4 Width: t outside 1..63
 --     narrow_cause s     5 Narrow: 2^t <= n k (p-1)^2
---     room_cause s       6 Room: (2k-2) t >= 64, or n (p-1)^2 >= 2^(64-(2k-2)t)
--- 5 is the first half of condition (2) of document 003; 6 is the second with 64 bits, asked of the top place alone, as request T-01 words it. 7 stands in
--- Choices, 8 in Coefficients, 10 in SharedAnswers; 11 in the crate `words`; in the crate `packed` 9 in Packing, Products and Running, 12 and 13 in Running, 18
--- in Overflow; 14 and 15 in the crate `tables`; 16, and 11, 12 and 13 of the double lane, in the crate `lane`; 17, and 12 of a job's state, in the crate
--- `jobs`; 19 to 21 in the crate `labels`.
+--     room_cause s       6 Room: (2k-1) t >= 64
+-- 5 and 6 are condition (2) of document 003 with 64 bits. 7 stands in Choices, 8 in Coefficients, 10 in SharedAnswers; 11 in the crate `words`; in the
+-- crate `packed` 9 in Packing, Products and Running, 12 and 13 in Running, 18 in Overflow; 14 and 15 in the crate `tables`; 16, and 11, 12 and 13 of the
+-- double lane, in the crate `lane`; 17, and 12 of a job's state, in the crate `jobs`; 19 to 21 in the crate `labels`.
 --     setting_checks     check a setting: 1 to 6 in order
 --     setting_numbers    the numbers that it can give; setting-gives: it gives no other
 --     base s            q = 2^t
 --     places s          2k-1, the fields of a product
---     span_of s          (2k-1) t, the bits of all its places
---     top_place s        (2k-2) t, the bit where the top place starts
---     top_most s         n (p-1)^2, the most that stands there: one product a pair
 --     InChoice p k n    what 1 to 3 leave
 --     InRange s         what 1 to 4 leave
 --     checked_says       the number and place that each case of check's answer stands for; checked_of, the way back
@@ -63,14 +59,8 @@ narrow_cause s = leb (base s) (batch_top s)
 abbrev pub span_of : Setting → ℕ
 span_of s = places s * s.t
 
-abbrev pub top_place : Setting → ℕ
-top_place s = (2 * s.k - 2) * s.t
-
-abbrev pub top_most : Setting → ℕ
-top_most s = s.n * ((s.p - 1) * (s.p - 1))
-
 abbrev pub room_cause : Setting → Bool
-room_cause s = leb word_bits (top_place s) || leb (2 ^ (word_bits - top_place s)) (top_most s)
+room_cause s = leb word_bits (span_of s)
 
 unfoldable pub setting_checks : Setting → Verdict
 setting_checks s =

@@ -1,6 +1,6 @@
 // The setting: modulus, coefficients per packed polynomial, bits per place, products added before a reduction.
 ghost use Rattle.std.specs.Prelude.{◌≡◌};
-ghost use Rattle.settings.specs.Settings.{outside, modulus_cause, length_cause, batch_cause, width_cause, narrow_cause, room_cause, batch_top, top_place, top_most, InChoice, InRange, Checks};
+ghost use Rattle.settings.specs.Settings.{outside, modulus_cause, length_cause, batch_cause, width_cause, narrow_cause, room_cause, batch_top, span_of, InChoice, InRange, Checks};
 ghost use Rattle.settings.specs.Choices.{escapes, smallest_width, Chooses};
 
 use crate::limits::{LARGEST_BATCH, LARGEST_MODULUS, MOST_COEFFICIENTS, WIDEST, WORD_BITS};
@@ -135,16 +135,12 @@ fn narrow_cause(s: Setting) -> bool
     1u64 << s.t <= batch_top(s)
 }
 
-// 6 Room. What the top place holds is compared with the bits that are left for it, both halved, since 2^64 is no word.
+// 6 Room
 fn room_cause(s: Setting) -> bool
     requires { InRange s }
     ensures { result ≡ room_cause s }
 {
-    let start = top_place(s);
-    if WORD_BITS <= start {
-        return true;
-    }
-    2 <= top_most(s) >> (WORD_BITS - 1 - start)
+    WORD_BITS <= span(s)
 }
 
 fn is_outside(x: u64, low: u64, high: u64) -> bool
@@ -165,19 +161,10 @@ fn batch_top(s: Setting) -> u64
     s.n * s.k * (m * m)
 }
 
-// (2k-2) t, where the top place starts
-fn top_place(s: Setting) -> u64
+// (2k-1) t
+fn span(s: Setting) -> u64
     requires { InRange s }
-    ensures { result ≡ top_place s }
+    ensures { result ≡ span_of s }
 {
-    (2 * s.k - 2) * s.t
-}
-
-// n (p-1)^2, the most that the top place of a batch holds: one product a pair
-fn top_most(s: Setting) -> u64
-    requires { InRange s }
-    ensures { result ≡ top_most s }
-{
-    let m = s.p - 1;
-    s.n * (m * m)
+    (2 * s.k - 1) * s.t
 }

@@ -1,6 +1,5 @@
 -- "Unpack", "Shifted residues" and "Reduce", each with its checks in order, and 11. A word has 2k-1 places.
 --     word_cause s w               11 Word: a word >= 2^((2k-1)t)
---     word-always                 where (2k-1) t is 64 or more, 11 is given for no word of 64 bits
 --     word_checks s w              the setting's checks, then 11
 --     first_bad_word s ws           the index of the first word that meets 11, and the length where there is none
 --     words_check s ws             11 Word, with that place; words_checks s ws, the setting's checks, then this
@@ -9,8 +8,6 @@
 --     ChecksWord, ChecksWords     the promises of check_word and check_words: these checks, of a word and of a list
 --     places_checks s w len        these, then 10: a list of len elements is lent for an element a place
 --     Unpacks s w old r after     the promise of unpack: the 2k-1 fields below q
---     fields-always               where (2k-1) t is 64 or more, every word of 64 bits is that of its 2k-1 fields
---     top-short                   and the top one is short: it has the 64 - (2k-2) t bits that are left, t or fewer
 --     ShiftedResidues s w old r after
 --                                 of shifted residues: u_i = floor(w / q^i) mod p, i from 0 to 2k-2
 --     reduced_word s w             the word whose field i is m_i, the old field modulo p
@@ -18,21 +15,14 @@
 --     Reduces s w r               the promise of reduce
 --     check-word-once, check-words-once, unpack-once, shifted-residues-once, reduce-once
 --                                 each promise allows one answer, and one list, only
-use Rattle.std.specs.Prelude.{ℕ, ◌+◌, ◌-◌, ◌*◌, ◌/◌, ◌^◌, ◌≤◌, ◌<◌, ◌≡◌, Bool, false, List, [], ◌∷◌, ◌++◌, leb, length}
-use Rattle.std.proofs.Math.Nat.{mod-le}
-use Rattle.std.proofs.Common.{div-lt_iff_lt-mul, lt_of_lt_of_le, lt_of_le_of_lt, arith, pow_pos, pow_mono}
-use Rattle.std.proofs.lemmas.Bool.{lt-leb}
+use Rattle.std.specs.Prelude.{ℕ, ◌^◌, ◌≡◌, Bool, List, [], ◌∷◌, ◌++◌, leb, length}
 use Rattle.polynomials.specs.Indices.{upto, first, some}
 use Rattle.polynomials.specs.Lists.{coefficient}
-use Rattle.polynomials.specs.Places.{packed, field, fields, shifted, reduced}
-use Rattle.polynomials.specs.PlaceLaws.{packed-fields, power-power}
-use Rattle.settings.specs.Limits.{word_bits}
+use Rattle.polynomials.specs.Places.{packed, fields, shifted, reduced}
 use Rattle.settings.specs.Answers.{Answer, answered, Verdict, refuse, ◌and_then◌, Given}
 use Rattle.settings.specs.AnswerLaws.{given-value, given-check, given-then}
 use Rattle.settings.specs.SharedAnswers.{packed_says, packed-once, short_cause, Writes, writes-once}
-use Rattle.settings.specs.Settings.{setting_checks, setting_numbers, setting-gives, base, places, span_of, top_place, checked_says, checked-once}
-use Rattle.settings.specs.SettingLaws.{span-top, word-parted}
-use Rattle.settings.specs.Bounds.{Bounds}
+use Rattle.settings.specs.Settings.{setting_checks, setting_numbers, setting-gives, base, places, span_of, checked_says, checked-once}
 use Rattle.settings.specs.declared.setting.Setting.{Setting}
 use Rattle.settings.specs.declared.setting.Checked.{Checked}
 use Rattle.settings.specs.declared.answers.Packed.{Packed}
@@ -40,9 +30,6 @@ use Rattle.settings.specs.declared.answers.Wrote.{Wrote}
 
 abbrev pub word_cause : Setting → ℕ → Bool
 word_cause s w = leb (2 ^ span_of s) w
-
-pub word-always : (s : Setting) (w : ℕ) → word_bits ≤ span_of s → w < 2 ^ word_bits → word_cause s w ≡ false
-word-always s w h l = lt-leb (2 ^ span_of s) w (lt_of_lt_of_le l (pow_mono {j = span_of s} h))
 
 unfoldable pub word_checks : Setting → ℕ → Verdict
 word_checks s w = setting_checks s and_then refuse (word_cause s w) 11 0
@@ -95,17 +82,6 @@ Unpacks s w old r after = Writes (places_checks s w (length old)) (fields (base 
 
 pub unpack-once : (s : Setting) (w : ℕ) (old : List ℕ) (a b : Wrote) (x y : List ℕ) → Unpacks s w old a x → Unpacks s w old b y → (a ≡ b) × (x ≡ y)
 unpack-once s w old = writes-once (places_checks s w (length old)) (fields (base s) (places s) w) old
-
-pub fields-always : (s : Setting) (w : ℕ) → word_bits ≤ span_of s → w < 2 ^ word_bits → packed (base s) (fields (base s) (places s) w) ≡ w
-fields-always s w h l = packed-fields (base s) (pow_pos s.t) (places s) w (rw (power-power 2 s.t (places s)) (lt_of_lt_of_le l (pow_mono {j = span_of s} h)))
-
-pub top-short : (s : Setting) (w : ℕ) → Bounds s → word_bits ≤ span_of s → w < 2 ^ word_bits
-    → (field (base s) w (2 * s.k - 2) < 2 ^ (word_bits - top_place s)) × (word_bits - top_place s ≤ s.t)
-top-short s w b h l =
-    let above : w / 2 ^ top_place s < 2 ^ (word_bits - top_place s) = (div-lt_iff_lt-mul {k = 2 ^ top_place s} (pow_pos (top_place s))).1 (rw (word-parted (top_place s) b.last_place) l) in (
-      lt_of_le_of_lt (mod-le (w / base s ^ (2 * s.k - 2)) (base s)) (rw (power-power 2 s.t (2 * s.k - 2)) above),
-      omega (arith, h, span-top s b.range.choice.k_low),
-    )
 
 -- ---- shifted residues
 

@@ -80,21 +80,17 @@ pub fn split_shifted(p: u64, t: u64, m: usize, word: u64, out: &mut [u16])
     }
 }
 
-// The word of the m fields modulo p, each by its own remainder, from the lowest on. What is left at the last place is its field. Places are told by the bit
-// where they start.
+// The word of the m lowest fields modulo p, each by its own remainder, from the highest place down.
 pub fn reduce_fields(p: u64, t: u64, m: usize, word: u64) -> u64
-    requires { (0 < p) × (0 < t) × (t < word_bits) × (0 < m) × ((m - 1) * t < word_bits) × (word < (2 ^ t) ^ m) }
+    requires { (0 < p) × (t < word_bits) × ((m - 1) * t < word_bits) }
     ensures { result ≡ packed (2 ^ t) (upto m (reduced p (2 ^ t) word)) }
 {
     let q = power(t);
-    let last = (m as u64 - 1) * t;
     let mut w = 0u64;
-    let mut rest = word;
-    let mut at = 0u64;
-    while at < last {
-        w = w + (rest % q % p << at);
-        rest = rest >> t;
-        at += t;
+    let mut i = m;
+    while 0 < i {
+        i -= 1;
+        w = w * q + (word >> (i as u64 * t)) % q % p;
     }
-    w + (rest % p << last)
+    w
 }

@@ -1,7 +1,7 @@
 //! The double lane.
 
 use crate::samples::{list, setting, settings, top, with, word};
-use crate::school::{self, largest};
+use crate::school::{self, limit};
 use crate::tally::Tally;
 use saxweylur::Setting;
 
@@ -22,7 +22,7 @@ pub fn run(t: &mut Tally) {
     }
 }
 
-/// Either side of 16, before all that follows it; k = 8 has settings on one side only.
+/// Either side of 16, before all that follows it; k = 7 and 8 have settings on one side only.
 fn widths(t: &mut Tally) {
     for k in 1..=8 {
         let width = 52 / (2 * k - 1);
@@ -91,14 +91,14 @@ fn bad_sums(t: &mut Tally, s: Setting, xs: &[u16], ys: &[u16]) {
 
 /// Multiples of p and their neighbours, where a quotient that is off by one would show.
 fn reductions(t: &mut Tally, s: Setting) {
-    let top = largest(s);
+    let top = limit(s) - 1;
     for w in [0, 1, 2, top, word(s, 1), word(s, 22), word(s, 333)] {
         let multiple = w / s.p * s.p;
         for w in [w, multiple, multiple.saturating_sub(1)] {
             let _ = t.lane_reduce(s, w as f64);
         }
     }
-    let (max, limit, least) = (f64::MAX, (top + 1) as f64, f64::from_bits(1));
+    let (max, limit, least) = (f64::MAX, limit(s) as f64, f64::from_bits(1));
     let improper = [
         f64::NAN,
         -f64::NAN,

@@ -1,7 +1,7 @@
 //! Products and sums.
 
 use crate::samples::{list, setting, settings, top, with};
-use crate::school::{self, places};
+use crate::school::places;
 use crate::tally::Tally;
 use saxweylur::Setting;
 
@@ -19,39 +19,10 @@ pub fn run(t: &mut Tally) {
     long_products(t, setting(65536, 1, 52, 1048576));
     full_sums(t, setting(929, 1, 63, 1048576), 0);
     full_sums(t, setting(3, 2, 5, 2), 1000);
-    long_products(t, setting(53, 3, 13, 1));
-    full_sums(t, setting(2, 2, 31, 3), 1000);
-    short_examples(t);
     for size in SIZES {
         let three = (&[1, 2, 1, 2, 1, 2][..], &[2; 6][..]);
         assert_eq!(t.sum(setting(3, 2, 5, 2), three, size, 3), Ok(2));
     }
-}
-
-/// With a short top place, which n pairs of k coefficients p-1 fill: field j of such a pair is
-/// min(j+1, 2k-1-j) (p-1)^2. Worked out by hand from the definition.
-fn short_examples(t: &mut Tally) {
-    for (s, pairs, reductions, sum) in [
-        (setting(53, 3, 13, 1), 1, 1, &[1, 2, 3, 2, 1][..]),
-        (setting(4, 3, 14, 28), 27, 1, &[3, 2, 1, 2, 3]),
-        (setting(4, 3, 14, 28), 28, 1, &[0; 5]),
-        (setting(4, 3, 14, 28), 29, 2, &[1, 2, 3, 2, 1]),
-        (setting(2, 3, 15, 15), 15, 1, &[1, 0, 1, 0, 1]),
-        (setting(2, 2, 31, 3), 3, 1, &[1, 0, 1]),
-        (setting(2, 2, 24, 65535), 65535, 1, &[1, 0, 1]),
-    ] {
-        let xs = top(s, pairs * s.k as usize);
-        let mut out = vec![0; places(s)];
-        assert_eq!(school::sum(s, &xs, &xs, &mut out), Ok(reductions));
-        assert_eq!(out, sum);
-        for size in SIZES {
-            assert_eq!(t.sum(s, (&xs, &xs), size, places(s)), Ok(reductions));
-        }
-    }
-    let (s, mut out) = (setting(53, 3, 13, 1), [0; 7]);
-    assert_eq!(t.product(s, &[52; 4], &[52; 4], 7), Ok(7));
-    assert_eq!(school::product(s, &[52; 4], &[52; 4], &mut out), Ok(7));
-    assert_eq!(out, [1, 2, 3, 4, 3, 2, 1]);
 }
 
 /// Into a buffer that is too short, just long enough, and longer.

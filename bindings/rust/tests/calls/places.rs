@@ -1,7 +1,7 @@
 //! Pack, unpack and reduce.
 
 use crate::samples::{list, setting, settings, top, with, word};
-use crate::school::{self, largest, places};
+use crate::school::{limit, places};
 use crate::tally::Tally;
 use saxweylur::Setting;
 
@@ -11,26 +11,9 @@ pub fn run(t: &mut Tally) {
     assert_eq!(t.pack(s, &[2, 2]), Ok(34));
     assert_eq!(t.unpack(s, 1122, 3), Ok(3));
     assert_eq!(t.reduce(s, 1122), Ok(258));
-    short_examples(t);
     for s in settings() {
         packs(t, s);
         words(t, s);
-    }
-}
-
-/// A short top place: bits 52 to 63. Worked out by hand from the definition: 52 + 52 q + 52 q^2
-/// with q = 8192, its square, and the largest word.
-fn short_examples(t: &mut Tally) {
-    let s = setting(53, 3, 13, 1);
-    assert_eq!(t.pack(s, &[52; 3]), Ok(3490086964));
-    let square = (12180707016282737296, [2704, 5408, 8112, 5408, 2704]);
-    let most = (u64::MAX, [8191, 8191, 8191, 8191, 4095]);
-    for ((word, fields), reduced) in [(square, 4504699340341249), (most, 63066339648184349)] {
-        let mut out = [0; 5];
-        assert_eq!(t.unpack(s, word, 5), Ok(5));
-        assert_eq!(school::unpack(s, word, &mut out), Ok(5));
-        assert_eq!(out, fields);
-        assert_eq!(t.reduce(s, word), Ok(reduced));
     }
 }
 
@@ -56,21 +39,16 @@ fn packs(t: &mut Tally, s: Setting) {
     }
 }
 
-/// Up to the largest, also its top bit alone; none is too large where that is all 64 bits.
 fn words(t: &mut Tally, s: Setting) {
-    let (fields, most) = (places(s), largest(s));
-    let some = [word(s, 1), word(s, 22), word(s, 333)];
-    for w in [0, 1, most / 2 + 1, most].into_iter().chain(some) {
+    let (fields, limit) = (places(s), limit(s));
+    for w in [0, 1, limit - 1, word(s, 1), word(s, 22), word(s, 333)] {
         for (len, number) in [(0, 10), (fields - 1, 10), (fields, 0), (fields + 7, 0)] {
             let want = t.unpack(s, w, len);
             t.meant(want, number, 0);
         }
         let _ = t.reduce(s, w);
     }
-    if most == u64::MAX {
-        return;
-    }
-    for w in [most + 1, (most + 1) | 1, u64::MAX] {
+    for w in [limit, limit | 1, u64::MAX] {
         for len in [0, fields, 20] {
             let want = t.unpack(s, w, len);
             t.meant(want, 11, 0);

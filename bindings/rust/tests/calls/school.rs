@@ -24,10 +24,9 @@ pub fn setting(s: Setting) -> Says<()> {
         (3, !(1..=1048576).contains(&s.n)),
         (4, !(1..=63).contains(&s.t)),
     ])?;
-    let (most, top) = (s.n * (s.p - 1) * (s.p - 1), (2 * s.k - 2) * s.t);
     check(&[
-        (5, 1 << s.t <= most * s.k),
-        (6, top >= 64 || u128::from(most) >= 1 << (64 - top)),
+        (5, 1 << s.t <= s.n * s.k * (s.p - 1) * (s.p - 1)),
+        (6, (2 * s.k - 1) * s.t >= 64),
     ])
 }
 
@@ -46,14 +45,8 @@ pub fn places(s: Setting) -> usize {
     2 * s.k as usize - 1
 }
 
-/// The largest word that 11 does not refuse: all 64 bits where (2k-1)t is 64 or more.
-pub fn largest(s: Setting) -> u64 {
-    let bits = (2 * s.k - 1) * s.t;
-    if bits < 64 {
-        (1 << bits) - 1
-    } else {
-        u64::MAX
-    }
+pub fn limit(s: Setting) -> u64 {
+    1 << ((2 * s.k - 1) * s.t)
 }
 
 fn coefficients(p: u64, xs: &[u16], ys: &[u16]) -> Says<()> {
@@ -83,7 +76,7 @@ pub fn pack(s: Setting, xs: &[u16]) -> Says<u64> {
 
 pub fn unpack(s: Setting, word: u64, out: &mut [u64]) -> Says<usize> {
     setting(s)?;
-    check(&[(11, word > largest(s)), (10, out.len() < places(s))])?;
+    check(&[(11, word >= limit(s)), (10, out.len() < places(s))])?;
     out.iter_mut()
         .zip(fields(s, word))
         .for_each(|(o, x)| *o = x);
@@ -92,7 +85,7 @@ pub fn unpack(s: Setting, word: u64, out: &mut [u64]) -> Says<usize> {
 
 pub fn reduce(s: Setting, word: u64) -> Says<u64> {
     setting(s)?;
-    check(&[(11, word > largest(s))])?;
+    check(&[(11, word >= limit(s))])?;
     Ok(word_of(s, fields(s, word).map(|x| x % s.p)))
 }
 
@@ -124,7 +117,7 @@ pub fn reduce_by_table(s: Setting, given: &[u8], words: &[u64], out: &mut [u64])
         return refuse(15, alike);
     }
     check(&[(10, out.len() < words.len())])?;
-    if let Some(place) = words.iter().position(|&word| word > largest(s)) {
+    if let Some(place) = words.iter().position(|&word| word >= limit(s)) {
         return refuse(11, place);
     }
     for (o, &word) in out.iter_mut().zip(words) {
@@ -203,7 +196,7 @@ pub fn lane_sum(s: Setting, xs: &[u16], ys: &[u16]) -> Says<f64> {
 
 pub fn lane_reduce(s: Setting, word: f64) -> Says<f64> {
     lane(s)?;
-    let proper = word.is_sign_positive() && word <= largest(s) as f64 && word.fract() == 0.0;
+    let proper = word.is_sign_positive() && word < limit(s) as f64 && word.fract() == 0.0;
     check(&[(11, !proper)])?;
     reduce(s, word as u64).map(|reduced| reduced as f64)
 }

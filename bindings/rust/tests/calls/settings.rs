@@ -10,7 +10,6 @@ const MAX: u64 = u64::MAX;
 pub fn run(t: &mut Tally) {
     choose(t);
     orders(t);
-    short_edges(t);
     for p in [1, 2, 65536, 65537] {
         for k in [0, 1, 8, 9] {
             for width in [0, 1, 4, 5, 63, 64] {
@@ -27,7 +26,7 @@ pub fn run(t: &mut Tally) {
 
 fn choose(t: &mut Tally) {
     let numbers = [
-        0, 1, 2, 3, 7, 8, 9, 37, 38, 53, 54, 929, 65536, 65537, 1048576, 1048577, MAX,
+        0, 1, 2, 3, 7, 8, 9, 37, 38, 929, 65536, 65537, 1048576, 1048577, MAX,
     ];
     for p in numbers {
         for k in numbers {
@@ -41,14 +40,11 @@ fn choose(t: &mut Tally) {
         (929, 2, 1, 21),
         (2, 8, 1, 4),
         (65536, 1, 1, 32),
-        (37, 3, 1, 12),
-        (38, 3, 1, 13),
-        (53, 3, 1, 13),
     ] {
         let want = t.choose(p, k, n);
         assert_eq!(want, Ok(width), "a case that is not the document's");
     }
-    for (p, k, n) in [(3, 4, 32), (929, 2, 2), (2, 8, 2), (54, 3, 1)] {
+    for (p, k, n) in [(3, 4, 32), (929, 2, 2), (2, 8, 2), (38, 3, 1)] {
         let want = t.choose(p, k, n);
         t.meant(want, 7, 0);
     }
@@ -75,51 +71,14 @@ fn orders(t: &mut Tally) {
     }
 }
 
-/// Either side of 6 where the top place is short, by p, n and t; and 5 before it.
-fn short_edges(t: &mut Tally) {
-    for s in [
-        setting(16, 3, 14, 1),
-        setting(2, 2, 31, 3),
-        setting(2, 3, 15, 15),
-        setting(4, 3, 14, 28),
-        setting(38, 3, 13, 1),
-        setting(53, 3, 13, 1),
-    ] {
-        good(t, s, Some(0));
-        bad(t, s, None);
-    }
-    for (s, number) in [
-        (setting(17, 3, 14, 1), 6),
-        (setting(2, 2, 31, 4), 6),
-        (setting(2, 2, 32, 1), 6),
-        (setting(2, 3, 15, 16), 6),
-        (setting(2, 3, 16, 1), 6),
-        (setting(4, 3, 14, 29), 6),
-        (setting(53, 3, 14, 1), 6),
-        (setting(54, 3, 13, 1), 5),
-        (setting(65, 3, 13, 1), 5),
-    ] {
-        both(t, s, Some(number));
-    }
-}
-
-/// The widths around a setting's own; then the largest n that 5 lets its width have, and the
-/// largest that 6 lets it have, and one more of each.
 fn around_width(t: &mut Tally, s: Setting) {
     for width in s.t - 1..=s.t + 1 {
         good(t, setting(s.p, s.k, width, s.n), None);
     }
-    let each = (s.p - 1) * (s.p - 1);
-    let most = ((1 << s.t) - 1) / (s.k * each);
+    let most = ((1 << s.t) - 1) / (s.k * (s.p - 1) * (s.p - 1));
     if (1..1048576).contains(&most) {
         good(t, setting(s.p, s.k, s.t, most), None);
         good(t, setting(s.p, s.k, s.t, most + 1), Some(5));
-    }
-    let room = (MAX >> ((2 * s.k - 2) * s.t)) / each;
-    if room < 1048576 {
-        let number = if most <= room { 5 } else { 6 };
-        good(t, setting(s.p, s.k, s.t, room), None);
-        good(t, setting(s.p, s.k, s.t, room + 1), Some(number));
     }
 }
 
@@ -139,10 +98,8 @@ macro_rules! each {
     };
 }
 
-/// Every call that takes a setting, with the rest of its arguments as they should be. A setting is
-/// meant to be accepted, with number 0, only where it is too wide for the lane.
+/// Every call that takes a setting, with the rest of its arguments as they should be.
 fn good(t: &mut Tally, s: Setting, number: Option<u64>) {
-    let lane_number = number.map(|number| if number == 0 { 16 } else { number });
     let zeros = &[0; 8][..s.k.min(8) as usize];
     let has_table = (2..=127).contains(&s.p) && (1..=63).contains(&s.t);
     let table = if has_table {
@@ -160,10 +117,6 @@ fn good(t: &mut Tally, s: Setting, number: Option<u64>) {
         t.reduce_by_table(s, &table, &[0, 1], 2),
         t.product(s, &[0; 3], &[1; 2], 4),
         t.sum(s, (zeros, zeros), 0, 15),
-    );
-    each!(
-        t,
-        lane_number,
         t.lane_sum(s, zeros, zeros),
         t.lane_reduce(s, 1.0),
     );

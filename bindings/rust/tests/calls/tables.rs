@@ -1,7 +1,7 @@
 //! Tables, and reduction by them.
 
 use crate::samples::{setting, settings, with, word};
-use crate::school::{largest, table};
+use crate::school::{limit, table};
 use crate::tally::Tally;
 use saxweylur::Setting;
 
@@ -40,7 +40,6 @@ fn builds(t: &mut Tally, s: Setting) {
 fn reduces(t: &mut Tally, s: Setting) {
     let fits = table(s.p, s.t);
     let words: Vec<u64> = (0..9).map(|c| word(s, 77 * c + s.t)).collect();
-    let words = with(&words, 3, largest(s));
     let longer = [&fits[..], &[251; 9]].concat();
     for (given, words, len, number) in [
         (&fits, &words[..], 9, 0),
@@ -57,13 +56,9 @@ fn reduces(t: &mut Tally, s: Setting) {
     stale(t, s, &fits, &words);
 }
 
-/// With a short top place there is none.
 fn bad_words(t: &mut Tally, s: Setting, fits: &[u8], words: &[u64]) {
-    if largest(s) == u64::MAX {
-        return;
-    }
     for i in [0, 4, 8] {
-        let bad = with(&with(words, 8, u64::MAX), i, largest(s) + 1);
+        let bad = with(&with(words, 8, u64::MAX), i, limit(s));
         let want = t.reduce_by_table(s, fits, &bad, 11);
         t.meant(want, 11, i);
         let want = t.reduce_by_table(s, fits, &bad, 8);

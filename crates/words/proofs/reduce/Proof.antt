@@ -39,14 +39,8 @@ places-requires c κs = ((bounded c).range.choice.k_low, (bounded c).range.choic
 reduce-fields-requires : tie.Need-reduce-fields-requires
 reduce-fields-requires c κs =
     let b = bounded c.before in
-    let last : c.places.result - 1 ≡ 2 * c.before.before.before.before.args.s.k - 2 = omega (arith, c.places.ensures) in (
-      omega (arith, b.range.choice.p_low),
-      b.range.t_low,
-      omega (arith, b.range.t_high),
-      omega (arith, c.places.ensures, b.range.choice.k_low),
-      rw last b.last_place,
-      rw c.places.ensures (word-checked _ _ (passed c.before)).below,
-    )
+    let last : c.places.result - 1 ≡ 2 * c.before.before.before.before.args.s.k - 2 = omega (arith, c.places.ensures) in
+    (omega (arith, b.range.choice.p_low), omega (arith, b.range.t_high), rw last b.last_place)
 
 returns-2 : tie.Need-returns-2
 unfolding reduce_answer

@@ -1,37 +1,24 @@
 -- `product` meets its promise. Assumes nothing.
-use Prim.Native.Nat.{ℕ, ◌+◌, ◌-◌, ◌≤◌, ◌<◌}
+use Prim.Native.Nat.{ℕ, ◌+◌, ◌-◌, ◌<◌}
 use mathlib.Core.Path.{◌≡◌, refl, sym, ap, ◌∙◌}
 use mathlib.Core.Bool.{true≢false}
 use mathlib.Core.List.{List}
 use native.Mathlib.Omega.{arith}
 use lib.ListN.{length}
 use borrow.Author.Rules.{rules}
-use borrow.Author.Tests.{not-true, lt-ltb, le-ltb}
+use borrow.Author.Tests.{not-true}
 use Rattle.polynomials.specs.Lists.{product_length}
-use Rattle.settings.specs.Answers.{fine, refused}
+use Rattle.settings.specs.Answers.{fine}
 use Rattle.settings.specs.SharedAnswers.{writes_nothing}
 use Rattle.settings.specs.Settings.{checked_says}
 use Rattle.packed.specs.Products.{factor_checks, product_checks}
-use Rattle.packed.specs.ProductLaws.{Factors, factors-checked, factors-last, product-refused, product-some, product-written}
+use Rattle.packed.specs.ProductLaws.{Factors, factors-checked, product-refused, product-some, product-written}
 use Rattle.packed.specs.Gathering.{ToMultiply}
 use Rattle.settings.specs.declared.setting.Setting.{Setting}
 use Rattle.packed.proofs.products.product.Statement.{statement}
 use Rattle.packed.proofs.products.product.Tie as tie
 
--- ---- on plain values: 10, after the others
-
-module _ (s : Setting) (a b : List ℕ) (len : ℕ) where
-  earlier : (number place : ℕ) → factor_checks s a b (product_length (length a) (length b)) ≡ refused number place → factor_checks s a b len ≡ refused number place
-  earlier number place e = factors-last s a b len ∙ rw e
-
-  module _ (others : factor_checks s a b (product_length (length a) (length b)) ≡ fine) where
-    short : len < product_length (length a) (length b) → factor_checks s a b len ≡ refused 10 0
-    short h = factors-last s a b len ∙ rw (others, lt-ltb len (product_length (length a) (length b)) h)
-
-    passed : product_length (length a) (length b) ≤ len → factor_checks s a b len ≡ fine
-    passed h = factors-last s a b len ∙ rw (others, le-ltb len (product_length (length a) (length b)) h)
-
--- ---- and what is multiplied
+-- ---- on plain values
 
 module _ (s : Setting) (a b out : List ℕ) (m : ℕ) (f : Factors s a b (length out)) (size : m ≡ product_length (length a) (length b)) (some : m ≡ 0 → ⊥) where
   both : (0 < length a) × (0 < length b) × (product_length (length a) (length b) ≡ length a + length b - 1)
@@ -46,15 +33,9 @@ module _ (s : Setting) (a b out : List ℕ) (m : ℕ) (f : Factors s a b (length
     room = omega (arith, both.2, f.room);
   }
 
--- where nothing is refused up to 8
-others : (c : tie.After-enum-told) → factor_checks c.before.before.before.before.before.before.args.s c.before.before.before.before.before.before.args.a.now c.before.before.before.before.before.before.args.b.now (product_length (length c.before.before.before.before.before.before.args.a.now) (length c.before.before.before.before.before.before.args.b.now)) ≡ fine
-others c = sym c.before.before.check-factors.ensures ∙ ap checked_says c.enum_told.given.1
-
--- where nothing is refused up to 10
-through : (c : tie.Else2) → factor_checks c.before.before.before.before.before.before.before.before.before.args.s c.before.before.before.before.before.before.before.before.before.args.a.now c.before.before.before.before.before.before.before.before.before.args.b.now (length c.before.before.before.before.before.before.before.before.before.args.out.now) ≡ fine
-through c =
-    let a = c.before.before.before.before.before.before.before.before.before.args in
-    passed a.s a.a.now a.b.now (length a.out.now) (others c.before.before.before) (rw c.before.before.product-length.ensures at c.if2.false)
+-- past the checks
+passed : (c : tie.After-enum-told) → factor_checks c.before.before.before.before.before.before.args.s c.before.before.before.before.before.before.args.a.now c.before.before.before.before.before.before.args.b.now (length c.before.before.before.before.before.before.args.out.now) ≡ fine
+passed c = sym c.before.before.check-factors.ensures ∙ ap checked_says c.enum_told.given.1
 
 -- ---- the needs
 
@@ -67,50 +48,42 @@ enum-known-r c = search rules
 returns : tie.Need-returns
 returns c =
     let a = c.before.before.before.before.before.before.before.args in
-    let e = earlier a.s a.a.now a.b.now (length a.out.now) _ _ (sym c.before.before.before.check-factors.ensures ∙ ap checked_says c.before.r.given.1) in
-    writes_nothing (product_checks a.s a.a.now a.b.now (length a.out.now)) _ a.out.now _ (product-refused a.s a.a.now a.b.now (length a.out.now) _ _ e)
+    writes_nothing (product_checks a.s a.a.now a.b.now (length a.out.now)) _ a.out.now _
+    (product-refused a.s a.a.now a.b.now (length a.out.now) _ _ (sym c.before.before.before.check-factors.ensures ∙ ap checked_says c.before.r.given.1))
 
 enum_told : tie.Need-enum-told
 enum_told c = search rules
 
 product-length-requires : tie.Need-product-length-requires
-product-length-requires c κs = let f = factors-checked _ _ _ _ (others c) in (f.left_size, f.right_size)
+product-length-requires c κs = let f = factors-checked _ _ _ _ (passed c) in (f.left_size, f.right_size)
 
 returns-2 : tie.Need-returns-2
 returns-2 c =
     let a = c.before.before.before.before.before.before.before.before.args in
-    let zero : 0 ≡ product_length (length a.a.now) (length a.b.now) = sym c.if1.true ∙ c.before.product-length.ensures in
-    let e = passed a.s a.a.now a.b.now (length a.out.now) (others c.before.before) (rw (← zero) (omega arith)) in
-    product-written a.s a.a.now a.b.now a.out.now a.out.now 0 e zero refl
-
-returns-3 : tie.Need-returns-3
-returns-3 c =
-    let a = c.before.before.before.before.before.before.before.before.before.args in
-    let e = short a.s a.a.now a.b.now (length a.out.now) (others c.before.before.before) (rw c.before.before.product-length.ensures at c.if2.true) in
-    writes_nothing (product_checks a.s a.a.now a.b.now (length a.out.now)) _ a.out.now _ (product-refused a.s a.a.now a.b.now (length a.out.now) _ _ e)
+    product-written a.s a.a.now a.b.now a.out.now a.out.now 0 (passed c.before.before) (sym c.if1.true ∙ c.before.product-length.ensures) refl
 
 multiply-requires : tie.Need-multiply-requires
 multiply-requires c κs =
-    let a = c.before.before.before.before.before.before.before.before.before.before.args in
-    let m = c.before.before.before.product-length in
-    working a.s a.a.now a.b.now a.out.now m.result (factors-checked _ _ _ _ (through c.before)) m.ensures c.before.before.if1.false
+    let a = c.before.before.before.before.before.before.before.before.before.args in
+    let m = c.before.before.product-length in
+    working a.s a.a.now a.b.now a.out.now m.result (factors-checked _ _ _ _ (passed c.before.before.before)) m.ensures c.before.if1.false
 
 same_length : tie.Need-same-length
 same_length c = search rules
 
-returns-4 : tie.Need-returns-4
-returns-4 c = absurd (true≢false (sym c.before.before.before.multiply.ensures.0 ∙ not-true c.before.before.before.multiply.result c.if3.true))
+returns-3 : tie.Need-returns-3
+returns-3 c = absurd (true≢false (sym c.before.before.before.multiply.ensures.0 ∙ not-true c.before.before.before.multiply.result c.if2.true))
 
 same-length-2 : tie.Need-same-length-2
 same-length-2 c = search rules
 
-returns-5 : tie.Need-returns-5
-returns-5 c =
-    let a = c.before.before.before.before.before.before.before.before.before.before.before.before.before.before.args in
-    let m = c.before.before.before.before.before.before.before.product-length in
-    let e = through c.before.before.before.before.before in
-    let size : length a.a.now + length a.b.now - 1 ≡ m.result = sym (m.ensures ∙ (both a.s a.a.now a.b.now a.out.now m.result (factors-checked _ _ _ _ e) m.ensures c.before.before.before.before.before.before.if1.false).2) in
-    product-written a.s a.a.now a.b.now a.out.now _ m.result e m.ensures (rw size at c.before.before.before.multiply.ensures.1)
+returns-4 : tie.Need-returns-4
+returns-4 c =
+    let a = c.before.before.before.before.before.before.before.before.before.before.before.before.before.args in
+    let m = c.before.before.before.before.before.before.product-length in
+    let f = factors-checked _ _ _ _ (passed c.before.before.before.before.before.before.before) in
+    let size : length a.a.now + length a.b.now - 1 ≡ m.result = sym (m.ensures ∙ (both a.s a.a.now a.b.now a.out.now m.result f m.ensures c.before.before.before.before.before.if1.false).2) in
+    product-written a.s a.a.now a.b.now a.out.now _ m.result (passed c.before.before.before.before.before.before.before) m.ensures (rw size at c.before.before.before.multiply.ensures.1)
 
 pub product-spec : {M : Type 1} → statement M
 product-spec =
@@ -122,9 +95,8 @@ product-spec =
     enum_told
     product-length-requires
     returns-2
-    returns-3
     multiply-requires
     same_length
-    returns-4
+    returns-3
     same-length-2
-    returns-5)
+    returns-4)

@@ -5,7 +5,6 @@ use mathlib.Core.Bool.{true}
 use borrow.Author.Rules.{rules}
 use Rattle.settings.specs.Answers.{refused, fine}
 use Rattle.settings.specs.Settings.{setting_checks, checked_says}
-use Rattle.settings.specs.Bounds.{bounds}
 use Rattle.packed.specs.Running.{sum_cause, record_cause}
 use Rattle.packed.specs.declared.running.Record.{Record}
 use Rattle.packed.proofs.running.record_cause.Statement.{statement}
@@ -39,7 +38,7 @@ enum_told : tie.Need-enum-told
 enum_told c = search rules
 
 sum-cause-requires : tie.Need-sum-cause-requires
-sum-cause-requires c κs = bounds _ (accepted c)
+sum-cause-requires c κs = accepted c
 
 returns-2 : tie.Need-returns-2
 returns-2 c = c.sum-cause.ensures ∙ at_sum c.before.before.before.before.args.running (accepted c.before)
