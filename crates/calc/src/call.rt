@@ -10,7 +10,7 @@ use settings::setting::Setting;
 const MOST_NUMBERS: usize = 6;
 
 // The first four numbers are a setting, where the verb takes one.
-#[derive(Drop)]
+#[derive(Clone, Copy)]
 pub struct Call {
     pub numbers: [u64; MOST_NUMBERS],
     pub setting: Setting,
@@ -19,7 +19,7 @@ pub struct Call {
 }
 
 // How many elements are lent, and whether the line says so; and whether a digest is asked for.
-#[derive(Drop)]
+#[derive(Clone, Copy)]
 pub struct Options {
     pub is_lent: bool,
     pub size: usize,

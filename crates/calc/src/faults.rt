@@ -12,7 +12,7 @@ pub const LARGE: u8 = 2;
 // A number that the list has no room for.
 pub const MANY: u8 = 3;
 
-#[derive(Drop)]
+#[derive(Clone, Copy)]
 pub struct Fault {
     pub kind: u8,
     pub place: usize,

@@ -5,7 +5,7 @@ use packed::running::{Record, Sum};
 use settings::limits::RESIDUE_PLACES;
 use settings::setting::Setting;
 
-#[derive(Drop)]
+#[derive(Clone, Copy)]
 pub struct Held {
     pub running: Record,
     pub lane: Lane,
@@ -13,7 +13,7 @@ pub struct Held {
 }
 
 // What is held after a line, and the length of its answer.
-#[derive(Drop)]
+#[derive(Clone, Copy)]
 pub struct Step {
     pub held: Held,
     pub size: usize,

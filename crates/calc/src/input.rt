@@ -6,7 +6,7 @@ use libc::STDOUT_FILENO;
 use texts::putting::put;
 
 // What is held, how much of the open line is there, whether it is longer than there is room for, and whether somebody takes the answers.
-#[derive(Drop)]
+#[derive(Clone, Copy)]
 pub struct Input {
     pub held: Held,
     pub size: usize,

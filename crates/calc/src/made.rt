@@ -14,7 +14,7 @@ use tables::build;
 const LARGEST_MODULUS: u64 = 65537;
 
 // What `powers` is told: how many, A, B, C and D.
-#[derive(Drop)]
+#[derive(Clone, Copy)]
 struct Rule {
     count: u64,
     first: u64,

@@ -1,4 +1,6 @@
 // calc: every call of the library by a line of text. It reads lines from standard input and answers each with one line, until the input ends.
+#![tactic(auto)]
+
 mod answer;
 mod call;
 mod copies;
@@ -32,7 +34,7 @@ use libc::STDIN_FILENO;
 const OUT: usize = ANSWER + 1;
 
 // What came of a read, and whether there is more.
-#[derive(Drop)]
+#[derive(Clone, Copy)]
 struct Turn {
     input: Input,
     more: bool,

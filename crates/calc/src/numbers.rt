@@ -6,7 +6,7 @@ use crate::places::{later, part};
 use texts::reading::{Numbers, read_numbers};
 
 // How many numbers were read into a list. There are none beside a fault.
-#[derive(Drop)]
+#[derive(Clone, Copy)]
 pub struct Got {
     pub count: usize,
     pub fault: Fault,

@@ -11,7 +11,7 @@ const SIGN: u64 = 0x8000_0000_0000_0000;
 // The bits that are set in infinity. A NaN has the same, and others.
 const INFINITY: u64 = 0x7ff0_0000_0000_0000;
 
-#[derive(Drop)]
+#[derive(Clone, Copy)]
 pub struct Double {
     pub value: f64,
     pub fault: Fault,

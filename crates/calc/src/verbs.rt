@@ -75,7 +75,7 @@ pub const SET_LANE: u8 = 31;
 pub const SET_JOB: u8 = 32;
 
 // How many numbers a verb takes, which lists, and whether the call is lent something to write into.
-#[derive(Drop)]
+#[derive(Clone, Copy)]
 pub struct Form {
     pub numbers: usize,
     pub lists: usize,

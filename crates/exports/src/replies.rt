@@ -11,7 +11,7 @@ use settings::refusals::Refusal;
 use settings::setting::Chosen;
 
 #[repr(C)]
-#[derive(Drop)]
+#[derive(Clone, Copy)]
 pub struct Reply {
     pub number: u64,
     pub place: u64,
@@ -20,7 +20,7 @@ pub struct Reply {
 
 // Of the double lane.
 #[repr(C)]
-#[derive(Drop)]
+#[derive(Clone, Copy)]
 pub struct LaneReply {
     pub number: u64,
     pub place: u64,

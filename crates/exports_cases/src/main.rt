@@ -1,6 +1,8 @@
 // Runs the functions that programs in C and Rust call, on document 01's examples, on an input for each refusal that they give past the setting's but 13 of
 // a sum, and on some refused settings, and prints number, place and value of what came. Lists are lent with sevens in them, and printed as far as they were lent. A sum is asked for with calls of
 // several sizes.
+#![tactic(auto)]
+
 use exports::replies::{LaneReply, Reply};
 use exports::{
     sax_build_table, sax_choose, sax_lane_reduce, sax_lane_sum, sax_pack, sax_product, sax_reduce,

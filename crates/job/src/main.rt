@@ -1,4 +1,6 @@
 // The job program: it reads a job from standard input and writes its line to standard output, and nothing else.
+#![tactic(auto)]
+
 ghost use Rattle.std.specs.Prelude.{◌≡◌, ◌++◌, length, drop};
 ghost use Rattle.jobs.specs.States.{line_of};
 ghost use Rattle.jobs.specs.Texts.{longest_line};
@@ -8,7 +10,7 @@ use libc::{STDIN_FILENO, STDOUT_FILENO};
 use settings::answers::Wrote;
 
 // A state, and whether there is more to read.
-#[derive(Drop)]
+#[derive(Clone, Copy)]
 struct Step {
     state: State,
     more: bool,

@@ -1,4 +1,6 @@
 // Jobs: the bytes of a job are taken in pieces of any size, and at the end its line is given.
+#![tactic(auto)]
+
 mod adding;
 mod bytes;
 mod coherent;

@@ -17,7 +17,7 @@ pub const LONGEST_LINE: usize = 126;
 // Room for a header, and for a pair of the longest polynomials.
 pub const HELD: usize = 32;
 
-#[derive(Drop)]
+#[derive(Clone, Copy)]
 pub enum Stage {
     // The header is not complete.
     Header,
@@ -29,7 +29,7 @@ pub enum Stage {
 
 // The bytes that wait for more, of the header or of the open pair, with zeros after them; how many pairs the header declares; and what was
 // added up.
-#[derive(Drop)]
+#[derive(Clone, Copy)]
 pub struct State {
     pub stage: Stage,
     pub held: [u8; HELD],

@@ -1,4 +1,6 @@
 // Check words for stacked labels (PDF417): words modulo 929, written at a level and checked. Built on the promises of the library.
+#![tactic(auto)]
+
 ghost use Rattle.labels.specs.Labels.{WritesLabel, ChecksLabel};
 
 mod checks;
@@ -21,7 +23,7 @@ use settings::refusals::Refusal;
 use settings::setting::Checked;
 
 // Whether a label passes: an answer, not a refusal.
-#[derive(Drop)]
+#[derive(Clone, Copy)]
 pub enum Passing {
     Passes,
     Fails,

@@ -1,5 +1,7 @@
 // The double lane: sums of packed products, and their reduction, worked in doubles. A double holds every whole number below 2^53, and number 16
 // keeps all that is formed here below that.
+#![tactic(auto)]
+
 ghost use Rattle.lane.specs.Lanes.{Makes, LaneSums, LaneReduces};
 
 mod exact;
@@ -16,7 +18,7 @@ use settings::refusals::Refusal;
 use settings::setting::{Checked, Setting};
 
 // The setting, and beside it p, q and 1/p as doubles.
-#[derive(Drop)]
+#[derive(Clone, Copy)]
 pub struct Lane {
     pub setting: Setting,
     pub p: f64,
@@ -24,14 +26,14 @@ pub struct Lane {
     pub inverse: f64,
 }
 
-#[derive(Drop)]
+#[derive(Clone, Copy)]
 pub enum Made {
     Lane(Lane),
     Refused(Refusal),
 }
 
 // The answer of a call that works out a word, as a double.
-#[derive(Drop)]
+#[derive(Clone, Copy)]
 pub enum LaneAnswer {
     Word(f64),
     Refused(Refusal),

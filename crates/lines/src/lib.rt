@@ -1,4 +1,6 @@
 // The lines of exports_cases, piece by piece, on standard output. Numbers are decimal, with a space before each.
+#![tactic(auto)]
+
 ghost use Rattle.lines.specs.Lines.{Prints, PrintsList};
 
 use libc::STDOUT_FILENO;

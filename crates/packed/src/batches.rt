@@ -14,7 +14,7 @@ use crate::running::Sum;
 use settings::setting::Setting;
 
 // The sum after some pairs, or that 18 would be given, and that is nowhere.
-#[derive(Drop)]
+#[derive(Clone, Copy)]
 pub struct Added {
     pub sum: Sum,
     pub fits: bool,

@@ -16,7 +16,7 @@ use settings::setting::Setting;
 const COLUMNS: usize = 4;
 
 // The sums of one batch in each of four columns.
-#[derive(Drop)]
+#[derive(Clone, Copy)]
 struct FourWords {
     first: u64,
     second: u64,

@@ -15,41 +15,41 @@ use settings::setting::{Checked, Setting, check};
 use words::check_word;
 
 // What was added up: how many pairs, the word of the open batch, unreduced, and the residues of the full batches.
-#[derive(Drop)]
+#[derive(Clone, Copy)]
 pub struct Sum {
     pub total: u64,
     pub word: u64,
     pub residues: [u16; RESIDUE_PLACES],
 }
 
-#[derive(Drop)]
+#[derive(Clone, Copy)]
 pub struct Record {
     pub setting: Setting,
     pub sum: Sum,
 }
 
 // How many pairs a feed took.
-#[derive(Drop)]
+#[derive(Clone, Copy)]
 pub enum Counted {
     Pairs(usize),
     Refused(Refusal),
 }
 
 // How many reductions the sum took.
-#[derive(Drop)]
+#[derive(Clone, Copy)]
 pub enum Closed {
     Reductions(u64),
     Refused(Refusal),
 }
 
 // A record, and the answer beside it.
-#[derive(Drop)]
+#[derive(Clone, Copy)]
 pub struct Begun {
     pub running: Record,
     pub answer: Checked,
 }
 
-#[derive(Drop)]
+#[derive(Clone, Copy)]
 pub struct Fed {
     pub running: Record,
     pub answer: Counted,

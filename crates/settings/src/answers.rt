@@ -2,14 +2,14 @@
 use crate::refusals::Refusal;
 
 // Of a call that makes a word.
-#[derive(Drop)]
+#[derive(Clone, Copy)]
 pub enum Packed {
     Word(u64),
     Refused(Refusal),
 }
 
 // Of a call that only writes: how many elements it wrote.
-#[derive(Drop)]
+#[derive(Clone, Copy)]
 pub enum Wrote {
     Count(usize),
     Refused(Refusal),

@@ -3,7 +3,7 @@ ghost use Rattle.settings.specs.Refusals.{RefusesAt};
 
 use crate::numbers;
 
-#[derive(Drop)]
+#[derive(Clone, Copy)]
 pub struct Refusal {
     pub number: u64,
     pub place: u64,

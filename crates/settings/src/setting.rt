@@ -7,7 +7,7 @@ use crate::limits::{LARGEST_BATCH, LARGEST_MODULUS, MOST_COEFFICIENTS, WIDEST, W
 use crate::refusals;
 use crate::refusals::Refusal;
 
-#[derive(Drop)]
+#[derive(Clone, Copy)]
 pub struct Setting {
     pub p: u64,
     pub k: u64,
@@ -15,13 +15,13 @@ pub struct Setting {
     pub n: u64,
 }
 
-#[derive(Drop)]
+#[derive(Clone, Copy)]
 pub enum Checked {
     Accepted,
     Refused(Refusal),
 }
 
-#[derive(Drop)]
+#[derive(Clone, Copy)]
 pub enum Chosen {
     Width(u64),
     Refused(Refusal),

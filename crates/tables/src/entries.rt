@@ -18,7 +18,7 @@ pub const HEADER_SIZE: usize = 8;
 const VERSION: u8 = 1;
 
 // An entry u + p v of the table: its u, and its value.
-#[derive(Drop)]
+#[derive(Clone, Copy)]
 struct Entry {
     u: u64,
     value: u64,

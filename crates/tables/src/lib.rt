@@ -1,4 +1,6 @@
 // The correction table: build, reduce by table, pick.
+#![tactic(auto)]
+
 ghost use Rattle.std.specs.Prelude.{◌≡◌};
 ghost use Rattle.settings.specs.Settings.{checked_says};
 ghost use Rattle.tables.specs.Tables.{table_checks, Builds, ReducesByTable, Picks};

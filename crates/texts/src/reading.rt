@@ -9,7 +9,7 @@ use crate::kinds::{BLANK, DIGIT, kind_of};
 
 // How many numbers there are; or the lowest place at which reading stops: at a byte that is no digit and no blank, at a number that is too large, or
 // at one for which there is no room.
-#[derive(Drop)]
+#[derive(Clone, Copy)]
 pub enum Numbers {
     Count(usize),
     Stray(usize),
@@ -18,13 +18,13 @@ pub enum Numbers {
 }
 
 // The digits from a place on: the number, and where they end.
-#[derive(Drop)]
+#[derive(Clone, Copy)]
 pub struct Run {
     pub value: u64,
     pub end: usize,
 }
 
-#[derive(Drop)]
+#[derive(Clone, Copy)]
 pub enum Number {
     Fits(Run),
     Large,

@@ -1,4 +1,6 @@
 // A word and its places: unpack, shifted residues, reduce, and the test of words. A word has 2k-1 places, as many as a product has coefficients.
+#![tactic(auto)]
+
 ghost use Rattle.std.specs.Prelude.{◌≡◌};
 ghost use Rattle.settings.specs.Settings.{checked_says};
 ghost use Rattle.words.specs.Places.{places_checks, ChecksWord, ChecksWords, Unpacks, ShiftedResidues, Reduces};
