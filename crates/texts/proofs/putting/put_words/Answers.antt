@@ -1,0 +1,32 @@
+-- `put_words` meets its promise: after i turns the first i numbers stand. Assumes nothing.
+use mathlib.Core.Path.{◌∙◌}
+use native.Mathlib.Omega.{arith}
+use lib.Seq.{take_all}
+use Rattle.texts.specs.PuttingLaws.{puts-size, puts-on, puts-join, put_next}
+use Rattle.texts.proofs.putting.put_words.Goals as goal
+
+pub put-next-requires : goal.put-next-requires
+put-next-requires c = tt
+
+pub loop-i-init : goal.loop-i-init
+loop-i-init c = (omega arith, puts-on c.put-next.ensures)
+
+pub bounds-ns-i : goal.bounds-ns-i
+bounds-ns-i c = c.loop-i-test.true
+
+pub put_spaced-next-requires : goal.put_spaced-next-requires
+put_spaced-next-requires c = tt
+
+pub loop-i-preserved : goal.loop-i-preserved
+loop-i-preserved c =
+    let l = c.loop-i in
+    let ns = c.args.ns.now in
+    (omega arith, put_next ns l.i c.loop-i-test.true l.invariant.1 c.put_spaced-next.ensures)
+
+pub shape_of-out : goal.shape_of-out
+shape_of-out c = puts-size c.loop-i.invariant.1 ∙ puts-size c.put-next.ensures
+
+pub returns : goal.returns
+returns c =
+    let all = take_all c.loop-i.i c.args.ns.now c.loop-i-test.false in
+    puts-join c.put-next.ensures (rw all at c.loop-i.invariant.1)
