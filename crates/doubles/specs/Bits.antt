@@ -20,6 +20,8 @@ use Rattle.doubles.specs.Near.{inverse-value}
 
 value-number : (x : Float) (a c : ℕ) → HasValue x false a c → is_nan x ≡ false
 unfolding is_nan
+value-number nan a c h = elim h [ ]
+value-number (inf _) a c h = elim h [ ]
 value-number (fin s m e) a c h = refl
 
 pub double-number : (n : ℕ) → n < exact_below → is_nan (double n) ≡ false

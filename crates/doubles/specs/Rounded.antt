@@ -11,7 +11,7 @@ use Rattle.std.proofs.Math.Nat.{mul-lt-mul_of_pos_right}
 use borrow.Author.Tests.{lt-ltb, ltb-true}
 use Rattle.std.proofs.Math.Arith.{le→nltb}
 use Rattle.std.proofs.Math.Dec.{ltb, not_T}
-use Rattle.std.specs.Float.{fin, Format}
+use Rattle.std.specs.Float.{nan, inf, fin, Format}
 use Rattle.std.specs.Float.Ieee.{up, down, round, sum, add, sub, mul, div, lt}
 use Rattle.std.specs.Float.Ieee.Fits.{down_pos}
 use Rattle.std.specs.Float.Ieee.Bits.{cond_no}
@@ -20,6 +20,8 @@ use Rattle.std.specs.Float.Ieee.Positive.{num, den, den_pos, value→cross}
 use Rattle.std.specs.Float.Ieee.Scale.{round_same}
 
 pub parts : (x : Float) (a c : ℕ) → HasValue x false a c → (m : ℕ) × (e : ℤ) × (x ≡ fin false m e)
+parts nan a c h = elim h [ ]
+parts (inf _) a c h = elim h [ ]
 parts (fin true m e) a c h = absurd (true≢false h.0)
 parts (fin false m e) a c h = (m, e, refl)
 
@@ -38,7 +40,11 @@ mul-round f x y a c b d C D h k =
 
 pub div-round : (f : Format) (x y : Float) (a b : ℕ) → 0 < b → HasValue x false a 1 → HasValue y false b 1 → div f x y ≡ round f false a b
 unfolding div
+div-round f nan y a b B h k = elim h [ ]
+div-round f (inf _) y a b B h k = elim h [ ]
 div-round f (fin true m e) y a b B h k = absurd (true≢false h.0)
+div-round f (fin false m e) nan a b B h k = elim k [ ]
+div-round f (fin false m e) (inf _) a b B h k = elim k [ ]
 div-round f (fin false m e) (fin true n g) a b B h k = absurd (true≢false k.0)
 div-round f (fin false m e) (fin false n g) a b B h k =
     let above = mul-pos B (down_pos g) in

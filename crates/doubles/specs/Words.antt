@@ -91,6 +91,8 @@ tested-number {x} t = (between-cut (between x t) (lit≤ tt)).1
 -- what equals a whole number, and is not negative, is it
 eq-value : (x y : Float) (n : ℕ) → HasValue x false n 1 → HasValue y false (num y) (den y) → eq x y ≡ true → HasValue y false n 1
 unfolding eq
+eq-value x nan n h k t = elim k [ ]
+eq-value x (inf _) n h k t = elim k [ ]
 eq-value x (fin true m e) n h k t = absurd (true≢false k.0)
 eq-value x (fin false m e) n h k t =
     let is : eq x (fin false m e) ≡ eqb (num x * down e) (m * up e * den x) = rw (parts x n 1 h).2 (and-true _) in

@@ -4,7 +4,7 @@
 --     open-word               the open word is the packed sum of the open batch, and its fields are the coefficients of that sum
 --     any_order               neither order nor cutting matters to closing
 --     calls-cut               cutting refuses nothing: where one call with all pairs is taken, so is every call of those that cut them at pairs
-use Rattle.std.specs.Prelude.{ℕ, ◌+◌, ◌/◌, ◌%◌, ◌≡◌, false, length}
+use Rattle.std.specs.Prelude.{ℕ, ◌/◌, ◌%◌, ◌≡◌, false, length}
 use Rattle.std.proofs.Common.{sym, ap, ◌∙◌, arith}
 use mathlib.Core.List.{List, [], ◌∷◌, ◌++◌, append-nil, append_assoc, Perm}
 use Rattle.std.proofs.Math.Nat.{zero-div}

@@ -8,7 +8,7 @@
 use Rattle.std.specs.Prelude.{ℕ, ◌+◌, ◌*◌, ◌/◌, ◌%◌, ◌^◌, ◌<◌, ◌≡◌, refl, false, List, [], ◌++◌, length, replicate}
 use Rattle.std.proofs.Common.{sym, ap, ◌∙◌, div-add-mod', add-mul, arith, length-append, pow_pos}
 use Rattle.std.proofs.Math.Nat.{zero-div, zero-mod, add-mul-mod_self_right, add-mul-div_right}
-use Rattle.polynomials.specs.Lists.{coefficient, Pairs}
+use Rattle.polynomials.specs.Lists.{coefficient}
 use Rattle.polynomials.specs.ListLaws.{coefficient-zeros, below-join, below_parts}
 use Rattle.polynomials.specs.PairLaws.{flat-join}
 use Rattle.settings.specs.Limits.{residue_places}

@@ -19,7 +19,7 @@ use borrow.Author.Tests.{eq-eqb, ne_eqb, lt-ltb, le-ltb, ltb-false, lt-leb, leb-
 use Rattle.polynomials.specs.Tests.{neither}
 use Rattle.polynomials.specs.Indices.{pick, filled}
 use Rattle.polynomials.specs.IndexLaws.{upto-at, upto-past, exceeds-none}
-use Rattle.polynomials.specs.Lists.{coefficient, sum, product, Below, Within, Pair, Pairs, sum_of_products, batch_most, product_most}
+use Rattle.polynomials.specs.Lists.{coefficient, sum, Below, Within, Pair, Pairs, sum_of_products, batch_most, product_most}
 use Rattle.polynomials.specs.ListLaws.{coefficient-past, coefficient-sum, filled_at, filled-after}
 use Rattle.polynomials.specs.BoundLaws.{batch-most, batch-more}
 use Rattle.polynomials.specs.Places.{packed, field, fields, sum_of_words}
