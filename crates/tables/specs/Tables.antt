@@ -130,7 +130,7 @@ first_that_fits (answered u) false false x y none = none
 
 -- where a buffer's entries lie: in the buffer's block of memory, past the header
 abbrev pub entries_place : Bor (List ℕ) → ℕ × ℕ
-entries_place buf = (buf.ptr.0, header_size + buf.ptr.1)
+entries_place buf = (buf.ref_ptr.0, header_size + buf.ref_ptr.1)
 
 abbrev pub picked : {A : Type 0} → Setting → Bor (List ℕ) → Bor (List ℕ) → A → A → A → A
 picked s a b = first_that_fits (table_checks s) (fits s a.now) (fits s b.now)
@@ -138,7 +138,7 @@ picked s a b = first_that_fits (table_checks s) (fits s a.now) (fits s b.now)
 abbrev pub Picks : Setting → Bor (List ℕ) → Bor (List ℕ) → Bor (List ℕ) → Type 0
 Picks s a b r =
     (r.now ≡ picked s a b (entries s.p s.t) (entries s.p s.t) [])
-    × (r.ptr ≡ picked s a b (entries_place a) (entries_place b) a.ptr)
+    × (r.ref_ptr ≡ picked s a b (entries_place a) (entries_place b) a.ref_ptr)
 
 pub pick-once : (s : Setting) (a b x y : Bor (List ℕ)) → Picks s a b x → Picks s a b y → (x.now ≡ y.now) × (x.ref_ptr ≡ y.ref_ptr)
 pick-once s a b x y hx hy = (hx.0 ∙ sym hy.0, hx.1 ∙ sym hy.1)

@@ -1,9 +1,7 @@
 -- `pick` meets its promise. Assumes nothing.
-use Prim.Native.Nat.{◌-◌}
 use mathlib.Core.Path.{◌≡◌, sym, ap, ◌∙◌}
 use mathlib.Core.Bool.{true, false}
 use native.Mathlib.Omega.{arith}
-use borrow.Author.Rules.{rules}
 use Rattle.settings.specs.Answers.{fine}
 use Rattle.settings.specs.Settings.{checked_says}
 use Rattle.tables.specs.Tables.{table_checks, fits}

@@ -27,7 +27,7 @@ look_up-requires c =
       omega (arith, range.t_high),
       rw last pre.0.last_place,
       omega (arith, ap length pre.1, length-upto (a.s.p * a.s.p) (entry a.s.p (2 ^ a.s.t))),
-      looked-up-room a.s a.held.now (2 * a.s.k - 1) (get_or a.words.now c.loop-i.i 0) (p-pos (goal.at.look_up-requires c).Start) pre.1 (c.shared_slice_known-in-loop-i-1.given c.loop-i.i).fits,
+      looked-up-room a.s a.held.now (2 * a.s.k - 1) (get_or a.words.now c.loop-i.i 0) (p-pos (goal.at.look_up-requires c).Start) pre.1 (c.type_inv.words c.loop-i.i).fits,
     )
 
 pub loop-i-preserved : goal.loop-i-preserved

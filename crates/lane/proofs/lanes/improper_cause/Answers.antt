@@ -1,0 +1,86 @@
+-- `improper_cause` meets its contract. Assumes nothing.
+use Rattle.std.proofs.Common.{◌≡◌, ℕ, ◌^◌, Bool, true, false, not, T, leb, sym, refl, ◌∙◌, true≢false, arith, rules, ne_eqb, leb-false}
+use lib.Ieee.{Float, binary64, fits, le, eq, ne}
+use borrow.Author.Tests.{eqb-false, not-true, not-false}
+use Rattle.polynomials.specs.Tests.{neither}
+use Rattle.doubles.specs.Whole.{double, whole_part, is_whole}
+use Rattle.doubles.specs.Exactly.{may-hold, zero_is}
+use Rattle.doubles.specs.Words.{Tested, whole-tested, from-zero-number, tested-cut, tested-number, tested-whole, short-is}
+use Rattle.settings.specs.Settings.{span_of}
+use Rattle.settings.specs.declared.setting.Setting.{Setting}
+use Rattle.lane.specs.Lanes.{improper_cause}
+use Rattle.lane.specs.LaneLaws.{LaneBounds, word_small}
+use Rattle.lane.proofs.lanes.improper_cause.Goals.{Else-not-x, Else-x-eq-MINUS_ZERO, Start}
+use Rattle.lane.proofs.lanes.improper_cause.Goals as goal
+
+module _ {s : Setting} (b : LaneBounds s) (x : Float) (f : T (fits binary64 x)) where
+  -- what 11 takes has passed the tests, and so what fails one is refused
+  takes : improper_cause s x ≡ false → Tested x
+  takes e =
+      let both = neither (not (is_whole x)) (leb (2 ^ span_of s) (whole_part x)) e in
+      whole-tested x f (not-false (is_whole x) both.0) (word_small b (whole_part x) (leb-false (2 ^ span_of s) (whole_part x) both.1))
+
+  refuses : (Tested x → ⊥) → true ≡ improper_cause s x
+  refuses h = go (improper_cause s x) refl
+    where
+      go : (c : Bool) → improper_cause s x ≡ c → true ≡ c
+      go true e = refl
+      go false e = absurd (h (takes e))
+
+  module _ (t : Tested x) {w : ℕ} (cut : w ≡ whole_part x) where
+    at-fraction : ne (double w) x ≡ true → true ≡ improper_cause s x
+    unfolding ne
+    at-fraction h =
+        let none : is_whole x ≡ false = sym (tested-whole x f t) ∙ not-true (eq (double (whole_part x)) x) (rw cut at h) in
+        rw none
+
+    at-end : ne (double w) x ≡ false → leb (2 ^ span_of s) w ≡ improper_cause s x
+    unfolding ne
+    at-end h =
+        let whole : is_whole x ≡ true = sym (tested-whole x f t) ∙ not-false (eq (double (whole_part x)) x) (rw cut at h) in
+        rw (whole, cut)
+
+fitting : (c : Start) → T (fits binary64 c.args.x)
+fitting c = search rules
+
+from_zero : (c : Else-not-x) → le (double 0) c.args.x ≡ true
+from_zero c = rw (← zero_is) (not-false _ c.if-not-x.false)
+
+tested : (c : Else-x-eq-MINUS_ZERO) → Tested c.args.x
+tested c = record {
+  from_zero = from_zero c.before.before;
+  short = rw (← short-is) (not-false _ c.if-not-x-2.false);
+  not_minus = ne_eqb _ _ c.if-x-eq-MINUS_ZERO.false;
+}
+
+pub returns-then-not-x : goal.returns-then-not-x
+returns-then-not-x c = refuses c.requires c.args.x (fitting (goal.at.returns-then-not-x c).Start) (λ t. true≢false (sym t.from_zero ∙ rw (← zero_is) (not-true _ c.if-not-x.true)))
+
+pub returns-then-not-x-2 : goal.returns-then-not-x-2
+returns-then-not-x-2 c = refuses c.requires c.args.x (fitting (goal.at.returns-then-not-x-2 c).Start) (λ t. true≢false (sym t.short ∙ rw (← short-is) (not-true _ c.if-not-x-2.true)))
+
+pub float_to_bits-x : goal.float_to_bits-x
+float_to_bits-x c = rw (from-zero-number c.args.x (from_zero (goal.at.float_to_bits-x c).Else-not-x)) tt
+
+pub returns-then-x-eq-MINUS_ZERO : goal.returns-then-x-eq-MINUS_ZERO
+returns-then-x-eq-MINUS_ZERO c = refuses c.requires c.args.x (fitting (goal.at.returns-then-x-eq-MINUS_ZERO c).Start) (λ t. eqb-false _ _ t.not_minus c.if-x-eq-MINUS_ZERO.true)
+
+pub truncating_f64_to_u64-word-requires : goal.truncating_f64_to_u64-word-requires
+truncating_f64_to_u64-word-requires c = tested-cut (tested c)
+
+pub int_to_float-word : goal.int_to_float-word
+int_to_float-word c = may-hold _ (rw c.truncating_f64_to_u64-word.ensures (omega (arith, tested-number (tested (goal.at.int_to_float-word c).Else-x-eq-MINUS_ZERO))))
+
+pub returns-then-word-x : goal.returns-then-word-x
+returns-then-word-x c =
+    at-fraction c.requires c.args.x (fitting d) (tested (goal.at.returns-then-word-x c).Else-x-eq-MINUS_ZERO) c.truncating_f64_to_u64-word.ensures c.if-word-x.true
+
+pub overflow_mul-s-2 : goal.overflow_mul-s-2
+overflow_mul-s-2 c = omega (arith, c.requires.short)
+
+pub power-requires : goal.power-requires
+power-requires c = c.requires.short
+
+pub returns : goal.returns
+returns c =
+    rw c.power.ensures (at-end c.requires c.args.x (fitting d) (tested (goal.at.returns c).Else-x-eq-MINUS_ZERO) c.truncating_f64_to_u64-word.ensures c.if-word-x.false)
