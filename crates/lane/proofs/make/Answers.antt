@@ -1,5 +1,5 @@
 -- `make` meets its contract. Assumes nothing.
-use Rattle.std.proofs.Common.{◌≡◌, sym, ap, ◌∙◌, rules}
+use Rattle.std.proofs.Common.{◌≡◌, sym, ap, ◌∙◌}
 use Rattle.settings.specs.Answers.{fine}
 use Rattle.settings.specs.Settings.{checked_says}
 use Rattle.lane.specs.Lanes.{make_checks}

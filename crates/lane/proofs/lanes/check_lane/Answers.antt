@@ -1,5 +1,5 @@
 -- `check_lane` meets its contract. Assumes nothing.
-use Rattle.std.proofs.Common.{◌≡◌, ℕ, true, false, sym, ap, ◌∙◌, rules}
+use Rattle.std.proofs.Common.{◌≡◌, ℕ, true, false, sym, ap, ◌∙◌}
 use Rattle.settings.specs.Answers.{refused, fine}
 use Rattle.settings.specs.Settings.{setting_checks, checked_says}
 use Rattle.settings.specs.Bounds.{bounds}

@@ -1,5 +1,5 @@
 -- `held_cause` meets its contract. Assumes nothing.
-use Rattle.std.proofs.Common.{◌≡◌, ℕ, true, sym, ap, ◌∙◌, rules}
+use Rattle.std.proofs.Common.{◌≡◌, ℕ, true, sym, ap, ◌∙◌}
 use Rattle.settings.specs.Answers.{refused, fine}
 use Rattle.settings.specs.Settings.{checked_says}
 use Rattle.lane.specs.Lanes.{make_checks, other_doubles, held_cause}

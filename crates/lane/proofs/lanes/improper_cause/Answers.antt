@@ -44,20 +44,20 @@ fitting : (c : Start) → T (fits binary64 c.args.x)
 fitting c = search rules
 
 from_zero : (c : Else-not-x) → le (double 0) c.args.x ≡ true
-from_zero c = rw (← zero_is) (not-false _ c.if-not-x.false)
+from_zero c = rw (← zero_is) c.if-not-x.false
 
 tested : (c : Else-x-eq-MINUS_ZERO) → Tested c.args.x
 tested c = record {
-  from_zero = from_zero c.before.before;
-  short = rw (← short-is) (not-false _ c.if-not-x-2.false);
+  from_zero = rw (← zero_is) c.if-not-x.false;
+  short = rw (← short-is) c.if-not-x-2.false;
   not_minus = ne_eqb _ _ c.if-x-eq-MINUS_ZERO.false;
 }
 
 pub returns-then-not-x : goal.returns-then-not-x
-returns-then-not-x c = refuses c.requires c.args.x (fitting (goal.at.returns-then-not-x c).Start) (λ t. true≢false (sym t.from_zero ∙ rw (← zero_is) (not-true _ c.if-not-x.true)))
+returns-then-not-x c = refuses c.requires c.args.x (fitting (goal.at.returns-then-not-x c).Start) (λ t. true≢false (sym t.from_zero ∙ rw (← zero_is) c.if-not-x.true))
 
 pub returns-then-not-x-2 : goal.returns-then-not-x-2
-returns-then-not-x-2 c = refuses c.requires c.args.x (fitting (goal.at.returns-then-not-x-2 c).Start) (λ t. true≢false (sym t.short ∙ rw (← short-is) (not-true _ c.if-not-x-2.true)))
+returns-then-not-x-2 c = refuses c.requires c.args.x (fitting (goal.at.returns-then-not-x-2 c).Start) (λ t. true≢false (sym t.short ∙ rw (← short-is) c.if-not-x-2.true))
 
 pub float_to_bits-x : goal.float_to_bits-x
 float_to_bits-x c = rw (from-zero-number c.args.x (from_zero (goal.at.float_to_bits-x c).Else-not-x)) tt
@@ -66,14 +66,14 @@ pub returns-then-x-eq-MINUS_ZERO : goal.returns-then-x-eq-MINUS_ZERO
 returns-then-x-eq-MINUS_ZERO c = refuses c.requires c.args.x (fitting (goal.at.returns-then-x-eq-MINUS_ZERO c).Start) (λ t. eqb-false _ _ t.not_minus c.if-x-eq-MINUS_ZERO.true)
 
 pub truncating_f64_to_u64-word-requires : goal.truncating_f64_to_u64-word-requires
-truncating_f64_to_u64-word-requires c = tested-cut (tested c)
+truncating_f64_to_u64-word-requires c = let cut = tested-cut (tested c) in record { lower_bound = cut.0; upper_bound = cut.1 }
 
 pub int_to_float-word : goal.int_to_float-word
 int_to_float-word c = may-hold _ (rw c.truncating_f64_to_u64-word.ensures (omega (arith, tested-number (tested (goal.at.int_to_float-word c).Else-x-eq-MINUS_ZERO))))
 
 pub returns-then-word-x : goal.returns-then-word-x
 returns-then-word-x c =
-    at-fraction c.requires c.args.x (fitting d) (tested (goal.at.returns-then-word-x c).Else-x-eq-MINUS_ZERO) c.truncating_f64_to_u64-word.ensures c.if-word-x.true
+    at-fraction c.requires c.args.x (fitting (goal.at.returns-then-word-x c).Start) (tested (goal.at.returns-then-word-x c).Else-x-eq-MINUS_ZERO) c.truncating_f64_to_u64-word.ensures c.if-word-x.true
 
 pub overflow_mul-s-2 : goal.overflow_mul-s-2
 overflow_mul-s-2 c = omega (arith, c.requires.short)
@@ -83,4 +83,4 @@ power-requires c = c.requires.short
 
 pub returns : goal.returns
 returns c =
-    rw c.power.ensures (at-end c.requires c.args.x (fitting d) (tested (goal.at.returns c).Else-x-eq-MINUS_ZERO) c.truncating_f64_to_u64-word.ensures c.if-word-x.false)
+    rw c.power.ensures (at-end c.requires c.args.x (fitting (goal.at.returns c).Start) (tested (goal.at.returns c).Else-x-eq-MINUS_ZERO) c.truncating_f64_to_u64-word.ensures c.if-word-x.false)

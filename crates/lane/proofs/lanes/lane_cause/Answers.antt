@@ -1,5 +1,5 @@
 -- `lane_cause` meets its contract. Assumes nothing.
-use Rattle.std.proofs.Common.{◌-◌, ◌*◌, refl, mul-le-mul, arith, rules}
+use Rattle.std.proofs.Common.{◌-◌, ◌*◌, refl, mul-le-mul, arith}
 use Rattle.settings.specs.Limits.{most_coefficients, widest}
 use Rattle.lane.proofs.lanes.lane_cause.Goals as goal
 

@@ -1,5 +1,5 @@
 -- `other_doubles` meets its contract. Assumes nothing.
-use Rattle.std.proofs.Common.{◌≡◌, true, false, sym, ap, ◌∙◌, arith, rules}
+use Rattle.std.proofs.Common.{◌≡◌, true, false, sym, ap, ◌∙◌, arith}
 use Rattle.doubles.specs.Whole.{differs_in_bits}
 use Rattle.doubles.specs.Bits.{double-number, inverse-number}
 use Rattle.settings.specs.Settings.{base}

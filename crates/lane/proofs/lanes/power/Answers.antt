@@ -1,5 +1,5 @@
 -- `power` meets its contract: 1 shifted by t below 53 loses no bit. Assumes nothing.
-use Rattle.std.proofs.Common.{◌∙◌, one-mul, arith, lit<, shl_exact, rules}
+use Rattle.std.proofs.Common.{◌∙◌, one-mul, arith, lit<, shl_exact}
 use Rattle.lane.proofs.lanes.power.Goals as goal
 
 pub returns : goal.returns

@@ -5,7 +5,7 @@ use Rattle.lane.specs.QuotientLaws.{cut-asks, cut-is, cut_small}
 use Rattle.lane.proofs.quotients.cut_product.Goals as goal
 
 pub truncating_f64_to_u64-requires : goal.truncating_f64_to_u64-requires
-truncating_f64_to_u64-requires c = cut-asks c.requires
+truncating_f64_to_u64-requires c = record { lower_bound = (cut-asks c.requires).0; upper_bound = (cut-asks c.requires).1 }
 
 pub int_to_float-result : goal.int_to_float-result
 int_to_float-result c =

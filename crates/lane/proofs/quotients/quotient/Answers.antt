@@ -1,5 +1,4 @@
 -- `quotient` meets its contract. Assumes nothing.
-use Rattle.std.proofs.Common.{rules}
 use Rattle.lane.specs.QuotientLaws.{guess-times, guess-less, guess-right, guess-low}
 use Rattle.lane.proofs.quotients.quotient.Goals as goal
 

@@ -1,5 +1,4 @@
 -- `remainder` meets its contract. Assumes nothing.
-use Rattle.std.proofs.Common.{rules}
 use Rattle.lane.specs.QuotientLaws.{quotient-times, quotient-less, quotient-left}
 use Rattle.lane.proofs.quotients.remainder.Goals as goal
 

@@ -1,8 +1,7 @@
 -- `add_products` meets its contract: after r turns the products of the first r pairs are added, which is no more than all of them. Assumes nothing.
-use Rattle.std.proofs.Common.{◌-◌, ◌/◌, ◌≤◌, length, arith, rules}
-use Rattle.doubles.specs.Whole.{Held}
+use Rattle.std.proofs.Common.{arith}
 use Rattle.doubles.specs.Exactly.{held, zero_is}
-use Rattle.lane.specs.SumLaws.{sum_so_far, sum-all, pair_inside, right-inside, left-packing, right-packing, pair-times, pair-plus, pair-next}
+use Rattle.lane.specs.SumLaws.{sum-all, pair_inside, right-inside, left-packing, right-packing, pair-times, pair-plus, pair-next}
 use Rattle.lane.proofs.sums.add_products.Goals as goal
 
 pub nonzero_div-pairs : goal.nonzero_div-pairs

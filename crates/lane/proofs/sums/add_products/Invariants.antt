@@ -1,8 +1,7 @@
 -- `add_products` meets its contract: after r turns the products of the first r pairs are added, which is no more than all of them. Assumes nothing.
-use Rattle.std.proofs.Common.{◌-◌, ◌/◌, ◌≤◌, length, arith, rules}
+use Rattle.std.proofs.Common.{◌-◌, ◌/◌, ◌≤◌, length}
 use Rattle.doubles.specs.Whole.{Held}
-use Rattle.doubles.specs.Exactly.{held, zero_is}
-use Rattle.lane.specs.SumLaws.{sum_so_far, sum-all, pair_inside, right-inside, left-packing, right-packing, pair-times, pair-plus, pair-next}
+use Rattle.lane.specs.SumLaws.{sum_so_far}
 use Rattle.lane.proofs.sums.add_products.Given as goal
 
 abbrev pub invariant-loop-r : goal.invariant-loop-r

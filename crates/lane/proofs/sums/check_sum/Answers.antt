@@ -6,7 +6,7 @@ use Rattle.packed.specs.RunningChecks.{pairs-shape, pairs-refused}
 use Rattle.lane.specs.Lanes.{held_cause, lane_sum_checks}
 use Rattle.lane.specs.LaneLaws.{ProperLane, lane-proper}
 use Rattle.lane.specs.declared.Lane.{Lane}
-use Rattle.lane.proofs.sums.check_sum.Goals.{After-s-1}
+use Rattle.lane.proofs.sums.check_sum.Goals.{Else-held_cause}
 use Rattle.lane.proofs.sums.check_sum.Goals as goal
 
 module _ (l : Lane) (xs ys : List ℕ) where
@@ -28,33 +28,33 @@ module _ (l : Lane) (xs ys : List ℕ) where
       unfolding lane_sum_checks
       from-8 h = rw (ok, (pairs-shape l.setting.k (length xs) (length ys)).1 shape, le-ltb l.setting.n (length xs / l.setting.k) h)
 
-passed : (c : After-s-1) → held_cause c.args.lane ≡ false
+passed : (c : Else-held_cause) → held_cause c.args.lane ≡ false
 passed c = sym c.held_cause.ensures ∙ c.if-held_cause.false
 
-made : (c : After-s-1) → ProperLane c.args.lane
+made : (c : Else-held_cause) → ProperLane c.args.lane
 made c = lane-proper c.args.lane (record { modulus = search rules; base = search rules; inverse = search rules }) (passed c)
 
 pub returns-then-held_cause : goal.returns-then-held_cause
 returns-then-held_cause c = let a = c.args in at-12 a.lane a.xs.now a.ys.now (sym c.held_cause.ensures ∙ c.if-held_cause.true)
 
 pub returns-then-xs-ys : goal.returns-then-xs-ys
-returns-then-xs-ys c = let a = c.args in at_9 a.lane a.xs.now a.ys.now (passed (goal.at.returns-then-xs-ys c).After-s-1) (λ h. c.if-xs-ys.true h.0)
+returns-then-xs-ys c = let a = c.args in at_9 a.lane a.xs.now a.ys.now (passed (goal.at.returns-then-xs-ys c).Else-held_cause) (λ h. c.if-xs-ys.true h.0)
 
 pub nonzero_rem-xs : goal.nonzero_rem-xs
-nonzero_rem-xs c = (made (goal.at.nonzero_rem-xs c).After-s-1).within.bounded.range.choice.k_low
+nonzero_rem-xs c = (made (goal.at.nonzero_rem-xs c).Else-held_cause).within.bounded.range.choice.k_low
 
 pub returns-then-xs-s-ne0 : goal.returns-then-xs-s-ne0
-returns-then-xs-s-ne0 c = let a = c.args in at_9 a.lane a.xs.now a.ys.now (passed (goal.at.returns-then-xs-s-ne0 c).After-s-1) (λ h. c.if-xs-s-ne0.true h.1)
+returns-then-xs-s-ne0 c = let a = c.args in at_9 a.lane a.xs.now a.ys.now (passed (goal.at.returns-then-xs-s-ne0 c).Else-held_cause) (λ h. c.if-xs-s-ne0.true h.1)
 
 pub nonzero_div-xs : goal.nonzero_div-xs
-nonzero_div-xs c = (made (goal.at.nonzero_div-xs c).After-s-1).within.bounded.range.choice.k_low
+nonzero_div-xs c = (made (goal.at.nonzero_div-xs c).Else-held_cause).within.bounded.range.choice.k_low
 
 pub returns-then-s-xs : goal.returns-then-s-xs
 returns-then-s-xs c =
     let a = c.args in
-    at-13 a.lane a.xs.now a.ys.now (passed (goal.at.returns-then-s-xs c).After-s-1) (c.if-xs-ys.false, c.if-xs-s-ne0.false) c.if-s-xs.true
+    at-13 a.lane a.xs.now a.ys.now (passed (goal.at.returns-then-s-xs c).Else-held_cause) (c.if-xs-ys.false, c.if-xs-s-ne0.false) c.if-s-xs.true
 
 pub returns : goal.returns
 returns c =
     let a = c.args in
-    c.check_coefficients.ensures ∙ from-8 a.lane a.xs.now a.ys.now (passed (goal.at.returns c).After-s-1) (c.if-xs-ys.false, c.if-xs-s-ne0.false) c.if-s-xs.false
+    c.check_coefficients.ensures ∙ from-8 a.lane a.xs.now a.ys.now (passed (goal.at.returns c).Else-held_cause) (c.if-xs-ys.false, c.if-xs-s-ne0.false) c.if-s-xs.false

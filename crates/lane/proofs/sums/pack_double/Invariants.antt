@@ -1,9 +1,8 @@
 -- `pack_double` meets its contract: w is the word of the coefficients from i on, which is no more than the whole. Assumes nothing.
-use Rattle.std.proofs.Common.{◌≡◌, ◌≤◌, length, drop, arith, rules}
+use Rattle.std.proofs.Common.{◌≤◌, length, drop}
 use Rattle.polynomials.specs.Places.{packed}
 use Rattle.doubles.specs.Whole.{whole_part, Held}
 use Rattle.packed.specs.Taken.{taken}
-use Rattle.lane.specs.SumLaws.{packed_none, pack-times, pack-plus, pack-next}
 use Rattle.lane.proofs.sums.pack_double.Given as goal
 
 abbrev pub invariant-loop-i : goal.invariant-loop-i
