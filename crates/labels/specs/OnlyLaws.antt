@@ -1,6 +1,6 @@
 -- A label is the only one. Assumes nothing.
 --     label-only            no other check words after the data words make a multiple of the generator
-use Rattle.std.specs.Prelude.{ℕ, ◌+◌, ◌≡◌, List, ◌++◌, reverse, length, replicate}
+use Rattle.std.specs.Prelude.{ℕ, ◌≡◌, List, ◌++◌, reverse, length, replicate}
 use Rattle.std.proofs.Common.{sym, ap, ◌∙◌, arith}
 use Rattle.std.proofs.lemmas.List.{reverse-append, reverse-reverse, length-reverse}
 use Rattle.polynomials.specs.Lists.{product, Below}

@@ -8,7 +8,7 @@ ghost use Rattle.labels.specs.Working.{Divisor, Dividing, CheckRoom, CheckWork, 
 use crate::generator::make_generator;
 use crate::limits::{MOST_CHECKS, MOST_WORDS};
 use crate::setting::LABELS;
-use crate::words::{subtract, turn, turn_opposites};
+use crate::word_lists::{subtract, turn, turn_opposites};
 use packed::products::product;
 
 // The check words of data words, for as many as out has places.

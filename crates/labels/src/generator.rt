@@ -7,7 +7,7 @@ ghost use Rattle.labels.specs.Working.{powers_of_three, times_root};
 use crate::limits::MOST_CHECKS;
 use crate::powers::powers_of_three;
 use crate::setting::LABELS;
-use crate::words::{copy, take_away};
+use crate::word_lists::{copy, take_away};
 use packed::products::product;
 
 // As many roots as there are places after the first, and the coefficient of x^0 first.

@@ -11,13 +11,13 @@ mod powers;
 pub mod refusals;
 mod roots;
 mod setting;
-mod words;
+mod word_lists;
 
 use crate::checks::{check_count, check_data, check_label};
 use crate::division::write_checks;
 use crate::limits::MOST_WORDS;
 use crate::roots::vanishes;
-use crate::words::{copy, turn};
+use crate::word_lists::{copy, turn};
 use settings::answers::Wrote;
 use settings::refusals::Refusal;
 use settings::setting::Checked;

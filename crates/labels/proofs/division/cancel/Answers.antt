@@ -1,0 +1,25 @@
+-- `cancel` meets its contract. Assumes nothing.
+use mathlib.Core.Path.{sym, ◌∙◌}
+use lib.ListN.{replicate}
+use Rattle.labels.specs.DivisionSteps.{multiple-size, multiple-below, step_words}
+use Rattle.labels.proofs.division.cancel.Goals as goal
+
+pub slice_bounds-subtract-end : goal.slice_bounds-subtract-end
+slice_bounds-subtract-end c =
+    let a = c.args in
+    let m = c.product in
+    sym (multiple-size a.g.now a.part.now (replicate 513 0) m.new.out m.result c.requires c.requires.few m.ensures)
+
+pub subtract-requires : goal.subtract-requires
+subtract-requires c =
+    let a = c.args in
+    let d = c.requires in
+    let m = c.product in
+    (d.same_size ∙ sym (multiple-size a.g.now a.part.now (replicate 513 0) m.new.out m.result d d.few m.ensures), d.part_below, multiple-below a.g.now a.part.now (replicate 513 0) m.new.out m.result d d.few m.ensures)
+
+pub returns : goal.returns
+returns c =
+    let a = c.args in
+    let d = c.requires in
+    let m = c.product in
+    step_words a.g.now a.part.now (replicate 513 0) m.new.out m.result d d.few m.ensures c.subtract.new.out c.subtract.ensures
