@@ -11,69 +11,69 @@ use exports::{
 
 const ALL: u64 = 18446744073709551615;
 
-fn main() {
-    choices();
-    packing();
-    unpacking();
-    reductions();
-    tables();
-    by_table();
-    products();
-    sums();
-    sums_refused();
-    lane_sums();
-    lane_reductions();
+fn main(rt: HostRuntime) {
+    choices(&rt);
+    packing(&rt);
+    unpacking(&rt);
+    reductions(&rt);
+    tables(&rt);
+    by_table(&rt);
+    products(&rt);
+    sums(&rt);
+    sums_refused(&rt);
+    lane_sums(&rt);
+    lane_reductions(&rt);
 }
 
-fn choices() {
-    show_choice(3, 4, 31);
-    show_choice(3, 4, 32);
-    show_choice(929, 2, 1);
-    show_choice(65536, 1, 1);
-    show_choice(1, 4, 31);
-    show_choice(3, 9, 31);
-    show_choice(3, 4, 0);
-    show_choice(ALL, ALL, ALL);
+fn choices(rt: &impl Print) {
+    show_choice(rt, 3, 4, 31);
+    show_choice(rt, 3, 4, 32);
+    show_choice(rt, 929, 2, 1);
+    show_choice(rt, 65536, 1, 1);
+    show_choice(rt, 1, 4, 31);
+    show_choice(rt, 3, 9, 31);
+    show_choice(rt, 3, 4, 0);
+    show_choice(rt, ALL, ALL, ALL);
 }
 
-fn packing() {
-    show_pack(3, 2, 4, 1, &[1, 2]);
-    show_pack(3, 2, 4, 1, &[2, 2]);
-    show_pack(3, 2, 4, 1, &[1, 2, 0]);
-    show_pack(3, 2, 4, 1, &[1, 3]);
-    show_pack(3, 2, 3, 1, &[1, 3]);
-    show_pack(ALL, ALL, ALL, ALL, &[1; 0]);
+fn packing(rt: &impl Print) {
+    show_pack(rt, 3, 2, 4, 1, &[1, 2]);
+    show_pack(rt, 3, 2, 4, 1, &[2, 2]);
+    show_pack(rt, 3, 2, 4, 1, &[1, 2, 0]);
+    show_pack(rt, 3, 2, 4, 1, &[1, 3]);
+    show_pack(rt, 3, 2, 3, 1, &[1, 3]);
+    show_pack(rt, ALL, ALL, ALL, ALL, &[1; 0]);
 }
 
-fn unpacking() {
-    show_unpack(3, 2, 4, 1, 1122, &mut [7; 3]);
-    show_unpack(3, 2, 4, 1, 1122, &mut [7; 5]);
-    show_unpack(3, 2, 4, 1, 1122, &mut [7; 2]);
-    show_unpack(3, 2, 4, 1, 4096, &mut [7; 2]);
-    show_unpack(3, 2, 22, 1, 4096, &mut [7; 2]);
+fn unpacking(rt: &impl Print) {
+    show_unpack(rt, 3, 2, 4, 1, 1122, &mut [7; 3]);
+    show_unpack(rt, 3, 2, 4, 1, 1122, &mut [7; 5]);
+    show_unpack(rt, 3, 2, 4, 1, 1122, &mut [7; 2]);
+    show_unpack(rt, 3, 2, 4, 1, 4096, &mut [7; 2]);
+    show_unpack(rt, 3, 2, 22, 1, 4096, &mut [7; 2]);
 }
 
-fn reductions() {
-    show_reduce(3, 2, 4, 1, 1122);
-    show_reduce(3, 2, 4, 1, 4095);
-    show_reduce(3, 2, 4, 1, 4096);
-    show_reduce(3, 2, 64, 1, 1122);
+fn reductions(rt: &impl Print) {
+    show_reduce(rt, 3, 2, 4, 1, 1122);
+    show_reduce(rt, 3, 2, 4, 1, 4095);
+    show_reduce(rt, 3, 2, 4, 1, 4096);
+    show_reduce(rt, 3, 2, 64, 1, 1122);
 }
 
-fn tables() {
-    show_table(3, 2, 4, 1, &mut [7; 17]);
-    show_table(3, 2, 4, 1, &mut [7; 20]);
-    show_table(3, 2, 4, 1, &mut [7; 16]);
-    show_table(128, 2, 21, 1, &mut [7; 16]);
-    show_table(3, 0, 4, 1, &mut [7; 16]);
+fn tables(rt: &impl Print) {
+    show_table(rt, 3, 2, 4, 1, &mut [7; 17]);
+    show_table(rt, 3, 2, 4, 1, &mut [7; 20]);
+    show_table(rt, 3, 2, 4, 1, &mut [7; 16]);
+    show_table(rt, 128, 2, 21, 1, &mut [7; 16]);
+    show_table(rt, 3, 0, 4, 1, &mut [7; 16]);
 }
 
 // The table of p = 3, t = 4 with three bytes after it, and its header alone, for this setting and for others.
-fn by_table() {
+fn by_table(rt: &impl Print) {
     let mut table = [7u8; 20];
     sax_build_table(3, 2, 4, 1, &mut table);
-    with_table(&table);
-    show_by_table(
+    with_table(rt, &table);
+    show_by_table(rt, 
         3,
         2,
         4,
@@ -84,161 +84,162 @@ fn by_table() {
     );
 }
 
-fn with_table(table: &[u8]) {
-    show_by_table(3, 2, 4, 1, table, &[1122, 33, 34], &mut [7; 4]);
-    show_by_table(3, 2, 4, 1, table, &[1122, 33, 4096], &mut [7; 4]);
-    show_by_table(3, 2, 4, 1, table, &[1122, 33, 4096], &mut [7; 2]);
-    show_by_table(3, 2, 5, 1, table, &[1122, 33, 4096], &mut [7; 2]);
-    show_by_table(128, 2, 21, 1, table, &[1122, 33], &mut [7; 2]);
-    show_by_table(3, 2, 4, 0, table, &[1122, 33], &mut [7; 2]);
+fn with_table(rt: &impl Print, table: &[u8]) {
+    show_by_table(rt, 3, 2, 4, 1, table, &[1122, 33, 34], &mut [7; 4]);
+    show_by_table(rt, 3, 2, 4, 1, table, &[1122, 33, 4096], &mut [7; 4]);
+    show_by_table(rt, 3, 2, 4, 1, table, &[1122, 33, 4096], &mut [7; 2]);
+    show_by_table(rt, 3, 2, 5, 1, table, &[1122, 33, 4096], &mut [7; 2]);
+    show_by_table(rt, 128, 2, 21, 1, table, &[1122, 33], &mut [7; 2]);
+    show_by_table(rt, 3, 2, 4, 0, table, &[1122, 33], &mut [7; 2]);
 }
 
-fn products() {
-    show_product(3, 2, 4, 1, &[1, 2], &[2, 2], &mut [7; 5]);
-    show_product(3, 2, 4, 1, &[1, 2, 1, 1, 2], &[2, 0, 1], &mut [7; 7]);
-    show_product(3, 2, 4, 1, &[1; 0], &[2, 2], &mut [7; 1]);
-    show_product(3, 2, 4, 1, &[1, 2], &[2, 2], &mut [7; 2]);
-    show_product(3, 2, 4, 1, &[1, 2], &[2, 3], &mut [7; 2]);
-    show_product(3, 2, 4, 1, &[1, 3], &[2, 3], &mut [7; 2]);
-    show_product(3, 2, 4, 1, &[3; 4097], &[2, 2], &mut [7; 2]);
-    show_product(3, 2, 4, 5, &[1, 2], &[2, 2], &mut [7; 5]);
+fn products(rt: &impl Print) {
+    show_product(rt, 3, 2, 4, 1, &[1, 2], &[2, 2], &mut [7; 5]);
+    show_product(rt, 3, 2, 4, 1, &[1, 2, 1, 1, 2], &[2, 0, 1], &mut [7; 7]);
+    show_product(rt, 3, 2, 4, 1, &[1; 0], &[2, 2], &mut [7; 1]);
+    show_product(rt, 3, 2, 4, 1, &[1, 2], &[2, 2], &mut [7; 2]);
+    show_product(rt, 3, 2, 4, 1, &[1, 2], &[2, 3], &mut [7; 2]);
+    show_product(rt, 3, 2, 4, 1, &[1, 3], &[2, 3], &mut [7; 2]);
+    show_product(rt, 3, 2, 4, 1, &[3; 4097], &[2, 2], &mut [7; 2]);
+    show_product(rt, 3, 2, 4, 5, &[1, 2], &[2, 2], &mut [7; 5]);
 }
 
 // The three pairs of document 01, and seven others, in calls of every size.
-fn sums() {
-    show_sum(3, 2, 5, 2, &[1, 2, 1, 2, 1, 2], &[2, 2, 2, 2, 2, 2], 0);
-    show_sum(3, 2, 5, 2, &[1, 2, 1, 2, 1, 2], &[2, 2, 2, 2, 2, 2], 1);
-    show_sum(3, 2, 5, 2, &[1, 2, 1, 2, 1, 2], &[2, 2, 2, 2, 2, 2], 2);
-    show_sum(3, 2, 5, 2, &[1, 2, 1, 2, 1, 2], &[2, 2, 2, 2, 2, 2], 3);
-    show_sum(3, 2, 5, 2, &[1; 0], &[2; 0], 1);
+fn sums(rt: &impl Print) {
+    show_sum(rt, 3, 2, 5, 2, &[1, 2, 1, 2, 1, 2], &[2, 2, 2, 2, 2, 2], 0);
+    show_sum(rt, 3, 2, 5, 2, &[1, 2, 1, 2, 1, 2], &[2, 2, 2, 2, 2, 2], 1);
+    show_sum(rt, 3, 2, 5, 2, &[1, 2, 1, 2, 1, 2], &[2, 2, 2, 2, 2, 2], 2);
+    show_sum(rt, 3, 2, 5, 2, &[1, 2, 1, 2, 1, 2], &[2, 2, 2, 2, 2, 2], 3);
+    show_sum(rt, 3, 2, 5, 2, &[1; 0], &[2; 0], 1);
     let xs = [6, 5, 4, 3, 2, 1, 0, 1, 2, 3, 4, 5, 6, 6];
     let ys = [1, 6, 6, 0, 5, 2, 3, 3, 4, 1, 0, 6, 2, 5];
-    show_sum(7, 2, 9, 3, &xs, &ys, 0);
-    show_sum(7, 2, 9, 3, &xs, &ys, 1);
-    show_sum(7, 2, 9, 3, &xs, &ys, 2);
-    show_sum(7, 2, 9, 3, &xs, &ys, 3);
-    show_sum(7, 2, 9, 3, &xs, &ys, 4);
-    show_sum(7, 2, 9, 3, &xs, &ys, 6);
-    show_sum(7, 2, 9, 3, &xs, &ys, 7);
-    show_sum(7, 2, 9, 3, &xs, &ys, 8);
-    show_sum(7, 2, 9, 3, &xs, &ys, 18446744073709551615);
+    show_sum(rt, 7, 2, 9, 3, &xs, &ys, 0);
+    show_sum(rt, 7, 2, 9, 3, &xs, &ys, 1);
+    show_sum(rt, 7, 2, 9, 3, &xs, &ys, 2);
+    show_sum(rt, 7, 2, 9, 3, &xs, &ys, 3);
+    show_sum(rt, 7, 2, 9, 3, &xs, &ys, 4);
+    show_sum(rt, 7, 2, 9, 3, &xs, &ys, 6);
+    show_sum(rt, 7, 2, 9, 3, &xs, &ys, 7);
+    show_sum(rt, 7, 2, 9, 3, &xs, &ys, 8);
+    show_sum(rt, 7, 2, 9, 3, &xs, &ys, 18446744073709551615);
 }
 
 // The place is one in the whole lists, whatever the size.
-fn sums_refused() {
-    show_sum(3, 2, 5, 2, &[1, 2, 1, 2, 1, 2], &[2, 2, 2, 2, 3, 2], 0);
-    show_sum(3, 2, 5, 2, &[1, 2, 1, 2, 1, 2], &[2, 2, 2, 2, 3, 2], 1);
-    show_sum(3, 2, 5, 2, &[1, 2, 1, 2, 1, 3], &[2, 3, 2, 2, 2, 2], 0);
-    show_sum(3, 2, 5, 2, &[1, 2, 1, 2, 1, 3], &[2, 3, 2, 2, 2, 2], 1);
-    show_sum(3, 2, 5, 2, &[3, 2, 1, 2, 1], &[2, 2, 2, 2, 3], 0);
-    show_sum(3, 2, 5, 2, &[3, 2, 1, 2, 1], &[2, 2, 2, 2, 3], 1);
-    show_sum(3, 2, 5, 2, &[3, 2, 1, 2], &[2, 2, 2, 2, 2, 2], 1);
-    show_sum(3, 2, 3, 2, &[3, 2, 1, 2], &[2, 2, 2, 2, 2, 2], 1);
-    show_sum_into(3, 2, 5, 2, &[1, 2, 1, 2], &[2, 2, 2, 2], 1, &mut [7; 2]);
-    show_sum_into(3, 2, 5, 2, &[1, 2, 1, 3], &[2, 2, 2, 2], 1, &mut [7; 2]);
+fn sums_refused(rt: &impl Print) {
+    show_sum(rt, 3, 2, 5, 2, &[1, 2, 1, 2, 1, 2], &[2, 2, 2, 2, 3, 2], 0);
+    show_sum(rt, 3, 2, 5, 2, &[1, 2, 1, 2, 1, 2], &[2, 2, 2, 2, 3, 2], 1);
+    show_sum(rt, 3, 2, 5, 2, &[1, 2, 1, 2, 1, 3], &[2, 3, 2, 2, 2, 2], 0);
+    show_sum(rt, 3, 2, 5, 2, &[1, 2, 1, 2, 1, 3], &[2, 3, 2, 2, 2, 2], 1);
+    show_sum(rt, 3, 2, 5, 2, &[3, 2, 1, 2, 1], &[2, 2, 2, 2, 3], 0);
+    show_sum(rt, 3, 2, 5, 2, &[3, 2, 1, 2, 1], &[2, 2, 2, 2, 3], 1);
+    show_sum(rt, 3, 2, 5, 2, &[3, 2, 1, 2], &[2, 2, 2, 2, 2, 2], 1);
+    show_sum(rt, 3, 2, 3, 2, &[3, 2, 1, 2], &[2, 2, 2, 2, 2, 2], 1);
+    show_sum_into(rt, 3, 2, 5, 2, &[1, 2, 1, 2], &[2, 2, 2, 2], 1, &mut [7; 2]);
+    show_sum_into(rt, 3, 2, 5, 2, &[1, 2, 1, 3], &[2, 2, 2, 2], 1, &mut [7; 2]);
 }
 
-fn lane_sums() {
-    show_lane_sum(3, 2, 5, 2, &[1, 2, 1, 2], &[2, 2, 2, 2], 8580.0);
-    show_lane_sum(3, 2, 5, 2, &[1, 2, 1, 2], &[2, 2, 2, 2], 4290.0);
-    show_lane_sum(3, 2, 5, 2, &[1; 0], &[2; 0], 0.0);
-    show_lane_sum(3, 2, 5, 2, &[1, 2, 1, 2], &[2, 2, 2, 3], 0.0);
-    show_lane_sum(3, 2, 5, 2, &[1; 6], &[3; 6], 0.0);
-    show_lane_sum(3, 2, 5, 2, &[1; 6], &[3; 4], 0.0);
-    show_lane_sum(3, 4, 7, 7, &[0; 4], &[3; 3], 0.0);
-    show_lane_sum(3, 4, 8, 7, &[0; 4], &[3; 3], 0.0);
-    show_lane_sum(3, 4, 10, 7, &[0; 4], &[3; 3], 0.0);
+fn lane_sums(rt: &impl Print) {
+    show_lane_sum(rt, 3, 2, 5, 2, &[1, 2, 1, 2], &[2, 2, 2, 2], 8580.0);
+    show_lane_sum(rt, 3, 2, 5, 2, &[1, 2, 1, 2], &[2, 2, 2, 2], 4290.0);
+    show_lane_sum(rt, 3, 2, 5, 2, &[1; 0], &[2; 0], 0.0);
+    show_lane_sum(rt, 3, 2, 5, 2, &[1, 2, 1, 2], &[2, 2, 2, 3], 0.0);
+    show_lane_sum(rt, 3, 2, 5, 2, &[1; 6], &[3; 6], 0.0);
+    show_lane_sum(rt, 3, 2, 5, 2, &[1; 6], &[3; 4], 0.0);
+    show_lane_sum(rt, 3, 4, 7, 7, &[0; 4], &[3; 3], 0.0);
+    show_lane_sum(rt, 3, 4, 8, 7, &[0; 4], &[3; 3], 0.0);
+    show_lane_sum(rt, 3, 4, 10, 7, &[0; 4], &[3; 3], 0.0);
 }
 
-fn lane_reductions() {
-    show_lane_reduce(3, 2, 4, 1, 1122.0, 258.0);
-    show_lane_reduce(3, 2, 4, 1, 1122.0, 259.0);
-    show_lane_reduce(3, 2, 4, 1, 0.0, 0.0);
-    show_lane_reduce(3, 2, 4, 1, 4096.0, 0.0);
-    show_lane_reduce(3, 2, 4, 1, -0.0, 0.0);
-    show_lane_reduce(3, 2, 4, 1, 0.5, 0.0);
-    show_lane_reduce(3, 2, 18, 1, 0.5, 0.0);
-    show_lane_reduce(3, 2, 22, 1, 0.5, 0.0);
+fn lane_reductions(rt: &impl Print) {
+    show_lane_reduce(rt, 3, 2, 4, 1, 1122.0, 258.0);
+    show_lane_reduce(rt, 3, 2, 4, 1, 1122.0, 259.0);
+    show_lane_reduce(rt, 3, 2, 4, 1, 0.0, 0.0);
+    show_lane_reduce(rt, 3, 2, 4, 1, 4096.0, 0.0);
+    show_lane_reduce(rt, 3, 2, 4, 1, -0.0, 0.0);
+    show_lane_reduce(rt, 3, 2, 4, 1, 0.5, 0.0);
+    show_lane_reduce(rt, 3, 2, 18, 1, 0.5, 0.0);
+    show_lane_reduce(rt, 3, 2, 22, 1, 0.5, 0.0);
 }
 
-fn show_choice(p: u64, k: u64, n: u64) {
-    lines::text(b"choose");
-    lines::number(p);
-    lines::number(k);
-    lines::number(n);
-    reply(sax_choose(p, k, n));
-    lines::end();
+fn show_choice(rt: &impl Print, p: u64, k: u64, n: u64) {
+    lines::text(rt, b"choose");
+    lines::number(rt, p);
+    lines::number(rt, k);
+    lines::number(rt, n);
+    reply(rt, sax_choose(p, k, n));
+    lines::end(rt);
 }
 
-fn show_pack(p: u64, k: u64, t: u64, n: u64, xs: &[u16]) {
-    lines::text(b"pack");
-    lines::setting(p, k, t, n);
-    lines::text(b" of");
-    lines::coefficients(xs);
-    reply(sax_pack(p, k, t, n, xs));
-    lines::end();
+fn show_pack(rt: &impl Print, p: u64, k: u64, t: u64, n: u64, xs: &[u16]) {
+    lines::text(rt, b"pack");
+    lines::setting(rt, p, k, t, n);
+    lines::text(rt, b" of");
+    lines::coefficients(rt, xs);
+    reply(rt, sax_pack(p, k, t, n, xs));
+    lines::end(rt);
 }
 
-fn show_unpack(p: u64, k: u64, t: u64, n: u64, word: u64, out: &mut [u64]) {
-    lines::text(b"unpack");
-    lines::setting(p, k, t, n);
-    lines::text(b" of");
-    lines::number(word);
-    reply(sax_unpack(p, k, t, n, word, out));
-    lines::text(b":");
-    lines::words(out);
-    lines::end();
+fn show_unpack(rt: &impl Print, p: u64, k: u64, t: u64, n: u64, word: u64, out: &mut [u64]) {
+    lines::text(rt, b"unpack");
+    lines::setting(rt, p, k, t, n);
+    lines::text(rt, b" of");
+    lines::number(rt, word);
+    reply(rt, sax_unpack(p, k, t, n, word, out));
+    lines::text(rt, b":");
+    lines::words(rt, out);
+    lines::end(rt);
 }
 
-fn show_reduce(p: u64, k: u64, t: u64, n: u64, word: u64) {
-    lines::text(b"reduce");
-    lines::setting(p, k, t, n);
-    lines::text(b" of");
-    lines::number(word);
-    reply(sax_reduce(p, k, t, n, word));
-    lines::end();
+fn show_reduce(rt: &impl Print, p: u64, k: u64, t: u64, n: u64, word: u64) {
+    lines::text(rt, b"reduce");
+    lines::setting(rt, p, k, t, n);
+    lines::text(rt, b" of");
+    lines::number(rt, word);
+    reply(rt, sax_reduce(p, k, t, n, word));
+    lines::end(rt);
 }
 
-fn show_table(p: u64, k: u64, t: u64, n: u64, out: &mut [u8]) {
-    lines::text(b"table");
-    lines::setting(p, k, t, n);
-    reply(sax_build_table(p, k, t, n, out));
-    lines::text(b":");
-    lines::bytes(out);
-    lines::end();
+fn show_table(rt: &impl Print, p: u64, k: u64, t: u64, n: u64, out: &mut [u8]) {
+    lines::text(rt, b"table");
+    lines::setting(rt, p, k, t, n);
+    reply(rt, sax_build_table(p, k, t, n, out));
+    lines::text(rt, b":");
+    lines::bytes(rt, out);
+    lines::end(rt);
 }
 
-fn show_by_table(p: u64, k: u64, t: u64, n: u64, table: &[u8], words: &[u64], out: &mut [u64]) {
-    lines::text(b"by table");
-    lines::setting(p, k, t, n);
-    lines::text(b" with");
-    lines::number(table.len() as u64);
-    lines::text(b" of");
-    lines::words(words);
-    reply(sax_reduce_by_table(p, k, t, n, table, words, out));
-    lines::text(b":");
-    lines::words(out);
-    lines::end();
+fn show_by_table(rt: &impl Print, p: u64, k: u64, t: u64, n: u64, table: &[u8], words: &[u64], out: &mut [u64]) {
+    lines::text(rt, b"by table");
+    lines::setting(rt, p, k, t, n);
+    lines::text(rt, b" with");
+    lines::number(rt, table.len() as u64);
+    lines::text(rt, b" of");
+    lines::words(rt, words);
+    reply(rt, sax_reduce_by_table(p, k, t, n, table, words, out));
+    lines::text(rt, b":");
+    lines::words(rt, out);
+    lines::end(rt);
 }
 
-fn show_product(p: u64, k: u64, t: u64, n: u64, a: &[u16], b: &[u16], out: &mut [u16]) {
-    lines::text(b"product");
-    lines::setting(p, k, t, n);
-    lines::text(b" of");
-    lines::list(a);
-    lines::text(b" by");
-    lines::list(b);
-    reply(sax_product(p, k, t, n, a, b, out));
-    lines::text(b":");
-    lines::coefficients(out);
-    lines::end();
+fn show_product(rt: &impl Print, p: u64, k: u64, t: u64, n: u64, a: &[u16], b: &[u16], out: &mut [u16]) {
+    lines::text(rt, b"product");
+    lines::setting(rt, p, k, t, n);
+    lines::text(rt, b" of");
+    lines::list(rt, a);
+    lines::text(rt, b" by");
+    lines::list(rt, b);
+    reply(rt, sax_product(p, k, t, n, a, b, out));
+    lines::text(rt, b":");
+    lines::coefficients(rt, out);
+    lines::end(rt);
 }
 
-fn show_sum(p: u64, k: u64, t: u64, n: u64, xs: &[u16], ys: &[u16], size: usize) {
-    show_sum_into(p, k, t, n, xs, ys, size, &mut [7; 4]);
+fn show_sum(rt: &impl Print, p: u64, k: u64, t: u64, n: u64, xs: &[u16], ys: &[u16], size: usize) {
+    show_sum_into(rt, p, k, t, n, xs, ys, size, &mut [7; 4]);
 }
 
 fn show_sum_into(
+    rt: &impl Print, 
     p: u64,
     k: u64,
     t: u64,
@@ -248,51 +249,51 @@ fn show_sum_into(
     size: usize,
     out: &mut [u16],
 ) {
-    lines::text(b"sum");
-    lines::setting(p, k, t, n);
-    lines::text(b" of");
-    lines::coefficients(xs);
-    lines::text(b" by");
-    lines::coefficients(ys);
-    lines::text(b" in");
-    lines::number(size as u64);
-    reply(sax_sum(p, k, t, n, xs, ys, size, out));
-    lines::text(b":");
-    lines::coefficients(out);
-    lines::end();
+    lines::text(rt, b"sum");
+    lines::setting(rt, p, k, t, n);
+    lines::text(rt, b" of");
+    lines::coefficients(rt, xs);
+    lines::text(rt, b" by");
+    lines::coefficients(rt, ys);
+    lines::text(rt, b" in");
+    lines::number(rt, size as u64);
+    reply(rt, sax_sum(p, k, t, n, xs, ys, size, out));
+    lines::text(rt, b":");
+    lines::coefficients(rt, out);
+    lines::end(rt);
 }
 
-fn show_lane_sum(p: u64, k: u64, t: u64, n: u64, xs: &[u16], ys: &[u16], other: f64) {
-    lines::text(b"lane sum");
-    lines::setting(p, k, t, n);
-    lines::text(b" of");
-    lines::coefficients(xs);
-    lines::text(b" by");
-    lines::coefficients(ys);
-    lane_reply(sax_lane_sum(p, k, t, n, xs, ys), other);
+fn show_lane_sum(rt: &impl Print, p: u64, k: u64, t: u64, n: u64, xs: &[u16], ys: &[u16], other: f64) {
+    lines::text(rt, b"lane sum");
+    lines::setting(rt, p, k, t, n);
+    lines::text(rt, b" of");
+    lines::coefficients(rt, xs);
+    lines::text(rt, b" by");
+    lines::coefficients(rt, ys);
+    lane_reply(rt, sax_lane_sum(p, k, t, n, xs, ys), other);
 }
 
-fn show_lane_reduce(p: u64, k: u64, t: u64, n: u64, word: f64, other: f64) {
-    lines::text(b"lane reduce");
-    lines::setting(p, k, t, n);
-    lane_reply(sax_lane_reduce(p, k, t, n, word), other);
+fn show_lane_reduce(rt: &impl Print, p: u64, k: u64, t: u64, n: u64, word: f64, other: f64) {
+    lines::text(rt, b"lane reduce");
+    lines::setting(rt, p, k, t, n);
+    lane_reply(rt, sax_lane_reduce(p, k, t, n, word), other);
 }
 
-fn reply(r: Reply) {
-    lines::text(b":");
-    lines::number(r.number);
-    lines::number(r.place);
-    lines::number(r.value);
+fn reply(rt: &impl Print, r: Reply) {
+    lines::text(rt, b":");
+    lines::number(rt, r.number);
+    lines::number(rt, r.place);
+    lines::number(rt, r.value);
 }
 
 // A double is held against another one.
-fn lane_reply(r: LaneReply, other: f64) {
-    lines::text(b":");
-    lines::number(r.number);
-    lines::number(r.place);
+fn lane_reply(rt: &impl Print, r: LaneReply, other: f64) {
+    lines::text(rt, b":");
+    lines::number(rt, r.number);
+    lines::number(rt, r.place);
     if r.value == other {
-        lines::text(b" the same\n");
+        lines::text(rt, b" the same\n");
         return;
     }
-    lines::text(b" another\n");
+    lines::text(rt, b" another\n");
 }

@@ -1,69 +1,68 @@
-// The lines of exports_cases, piece by piece, on standard output. Numbers are decimal, with a space before each.
+// The lines of exports_cases, piece by piece, on what is given to print on. Numbers are decimal, with a space before each.
 #![tactic(auto)]
 
 ghost use Rattle.lines.specs.Lines.{Prints, PrintsList};
 
-use libc::STDOUT_FILENO;
-
-pub fn text(piece: &[u8])
+pub fn text(rt: &impl Print, piece: &[u8])
     ensures { PrintsList piece.now piece.now result }
 {
-    io::write_all(STDOUT_FILENO, piece);
+    // As before, a write that fails is passed over.
+    let _ = rt.write_all(piece);
 }
 
-pub fn end()
+pub fn end(rt: &impl Print)
     ensures { Prints result }
 {
-    text(b"\n");
+    text(rt, b"\n");
 }
 
-pub fn number(n: u64)
+pub fn number(rt: &impl Print, n: u64)
     ensures { Prints result }
 {
-    text(b" ");
-    io::print_decimal(STDOUT_FILENO, n);
+    text(rt, b" ");
+    let _ = rt.print(n);
 }
 
-pub fn setting(p: u64, k: u64, t: u64, n: u64)
+pub fn setting(rt: &impl Print, p: u64, k: u64, t: u64, n: u64)
     ensures { Prints result }
 {
-    number(p);
-    number(k);
-    number(t);
-    number(n);
+    number(rt, p);
+    number(rt, k);
+    number(rt, t);
+    number(rt, n);
 }
 
-pub fn bytes(xs: &[u8])
+pub fn bytes(rt: &impl Print, xs: &[u8])
     ensures { PrintsList xs.now xs.now result }
 {
     let mut i = 0;
     while i < xs.len() {
-        number(wide_byte(xs[i]));
+        number(rt, wide_byte(xs[i]));
         i += 1;
     }
 }
 
-pub fn coefficients(xs: &[u16])
+pub fn coefficients(rt: &impl Print, xs: &[u16])
     ensures { PrintsList xs.now xs.now result }
 {
     let mut i = 0;
     while i < xs.len() {
-        number(wide(xs[i]));
+        number(rt, wide(xs[i]));
         i += 1;
     }
 }
 
 // A list, or of a long one its length and its digest.
-pub fn list(xs: &[u16])
+pub fn list(rt: &impl Print, xs: &[u16])
     ensures { PrintsList xs.now xs.now result }
 {
     if xs.len() <= 16 {
-        coefficients(xs);
+        coefficients(rt, xs);
         return;
     }
-    number(xs.len() as u64);
-    text(b" with digest");
-    number(digest(xs));
+    number(rt, xs.len() as u64);
+    text(rt, b" with digest");
+    number(rt, digest(xs));
 }
 
 // A number in which every coefficient counts with its place: times 257 and the next one added, again and again, modulo the prime 1,000,003.
@@ -77,12 +76,12 @@ fn digest(xs: &[u16]) -> u64 {
     sum
 }
 
-pub fn words(xs: &[u64])
+pub fn words(rt: &impl Print, xs: &[u64])
     ensures { PrintsList xs.now xs.now result }
 {
     let mut i = 0;
     while i < xs.len() {
-        number(xs[i]);
+        number(rt, xs[i]);
         i += 1;
     }
 }
