@@ -73,7 +73,8 @@ fn by_table(rt: &impl Print) {
     let mut table = [7u8; 20];
     sax_build_table(3, 2, 4, 1, &mut table);
     with_table(rt, &table);
-    show_by_table(rt, 
+    show_by_table(
+        rt,
         3,
         2,
         4,
@@ -208,7 +209,16 @@ fn show_table(rt: &impl Print, p: u64, k: u64, t: u64, n: u64, out: &mut [u8]) {
     lines::end(rt);
 }
 
-fn show_by_table(rt: &impl Print, p: u64, k: u64, t: u64, n: u64, table: &[u8], words: &[u64], out: &mut [u64]) {
+fn show_by_table(
+    rt: &impl Print,
+    p: u64,
+    k: u64,
+    t: u64,
+    n: u64,
+    table: &[u8],
+    words: &[u64],
+    out: &mut [u64],
+) {
     lines::text(rt, b"by table");
     lines::setting(rt, p, k, t, n);
     lines::text(rt, b" with");
@@ -221,7 +231,16 @@ fn show_by_table(rt: &impl Print, p: u64, k: u64, t: u64, n: u64, table: &[u8], 
     lines::end(rt);
 }
 
-fn show_product(rt: &impl Print, p: u64, k: u64, t: u64, n: u64, a: &[u16], b: &[u16], out: &mut [u16]) {
+fn show_product(
+    rt: &impl Print,
+    p: u64,
+    k: u64,
+    t: u64,
+    n: u64,
+    a: &[u16],
+    b: &[u16],
+    out: &mut [u16],
+) {
     lines::text(rt, b"product");
     lines::setting(rt, p, k, t, n);
     lines::text(rt, b" of");
@@ -239,7 +258,7 @@ fn show_sum(rt: &impl Print, p: u64, k: u64, t: u64, n: u64, xs: &[u16], ys: &[u
 }
 
 fn show_sum_into(
-    rt: &impl Print, 
+    rt: &impl Print,
     p: u64,
     k: u64,
     t: u64,
@@ -263,7 +282,16 @@ fn show_sum_into(
     lines::end(rt);
 }
 
-fn show_lane_sum(rt: &impl Print, p: u64, k: u64, t: u64, n: u64, xs: &[u16], ys: &[u16], other: f64) {
+fn show_lane_sum(
+    rt: &impl Print,
+    p: u64,
+    k: u64,
+    t: u64,
+    n: u64,
+    xs: &[u16],
+    ys: &[u16],
+    other: f64,
+) {
     lines::text(rt, b"lane sum");
     lines::setting(rt, p, k, t, n);
     lines::text(rt, b" of");
