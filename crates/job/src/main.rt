@@ -6,51 +6,33 @@ ghost use Rattle.jobs.specs.States.{line_of};
 ghost use Rattle.jobs.specs.Texts.{longest_line};
 
 use jobs::state::{LONGEST_LINE, Stage, State, finish, start, take};
-use libc::{STDIN_FILENO, STDOUT_FILENO};
 use settings::answers::Wrote;
+use std::io;
+use std::io::Read;
 
-// A state, and whether there is more to read.
-#[derive(Clone, Copy)]
-struct Step {
-    state: State,
-    more: bool,
+// How much is read at a time.
+const PIECE: usize = 65536;
+
+fn main(rt: HostRuntime) -> io::Result<()> {
+    let state = read_job(&mut rt.stdin())?;
+    write_line(&rt, state)
 }
 
-fn main() {
-    write_line(read_job());
-}
-
-// A proved loop has to end, and nothing says that the input does. So the loop counts its turns down, from a number that no run uses up.
-fn read_job() -> State {
-    let mut piece = io::large_buffer();
+// A proved loop has to end, and nothing says that the input does. So the loop counts its turns, up to a number that no run uses up.
+fn read_job<R: Read>(input: &mut R) -> io::Result<State> {
+    let mut piece = [0u8; PIECE];
     let mut state = start();
-    let mut turns = u64::MAX;
-    while turns > 0 {
-        let step = read_piece(state, &mut piece);
-        state = step.state;
-        if !step.more {
-            return state;
+    for _ in 0..u64::MAX {
+        let size = input.read(&mut piece)?;
+        if size == 0 {
+            break;
         }
-        turns -= 1;
+        state = take(state, &piece[..size]);
+        if !is_open(state) {
+            break;
+        }
     }
-    state
-}
-
-// One read. Where it fails the input has ended, as where it gives nothing.
-fn read_piece(state: State, piece: &mut [u8]) -> Step {
-    let got = libc::read(STDIN_FILENO, piece);
-    let size = io::count(got, piece);
-    if size == 0 {
-        return Step {
-            state: state,
-            more: false,
-        };
-    }
-    let next = take(state, &piece[..size]);
-    Step {
-        state: next,
-        more: is_open(next),
-    }
+    Ok(state)
 }
 
 // Bytes after a refusal cannot change the line, and are left unread.
@@ -63,10 +45,10 @@ fn is_open(state: State) -> bool {
     }
 }
 
-fn write_line(state: State) {
+fn write_line(rt: &impl Print, state: State) -> io::Result<()> {
     let mut line = [0u8; LONGEST_LINE];
     let size = put_line(state, &mut line);
-    io::write_all(STDOUT_FILENO, &line[..size]);
+    rt.write_all(&line[..size])
 }
 
 // The line, and its length. No line is longer than the longest, so finish does not refuse, and there is always a line to write.
