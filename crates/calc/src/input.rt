@@ -2,7 +2,6 @@
 use crate::answer::answer;
 use crate::held::Held;
 use crate::limits::ANSWER;
-use libc::STDOUT_FILENO;
 use texts::putting::put;
 
 // What is held, how much of the open line is there, whether it is longer than there is room for, and whether somebody takes the answers.
@@ -15,19 +14,25 @@ pub struct Input {
 }
 
 // The next bytes of the input.
-pub fn take_piece(input: Input, piece: &[u8], line: &mut [u8], out: &mut [u8]) -> Input {
+pub fn take_piece(
+    rt: &impl Print,
+    input: Input,
+    piece: &[u8],
+    line: &mut [u8],
+    out: &mut [u8],
+) -> Input {
     let mut after = input;
     let mut i = 0;
     while i < piece.len() {
-        after = take_byte(after, piece[i], line, out);
+        after = take_byte(rt, after, piece[i], line, out);
         i += 1;
     }
     after
 }
 
-fn take_byte(input: Input, byte: u8, line: &mut [u8], out: &mut [u8]) -> Input {
+fn take_byte(rt: &impl Print, input: Input, byte: u8, line: &mut [u8], out: &mut [u8]) -> Input {
     if byte == b'\n' {
-        return end_line(input, line, out);
+        return end_line(rt, input, line, out);
     }
     let size = input.size;
     let held = input.held;
@@ -49,15 +54,15 @@ fn take_byte(input: Input, byte: u8, line: &mut [u8], out: &mut [u8]) -> Input {
 }
 
 // The input has ended; a last line may lack its line end.
-pub fn end_input(input: Input, line: &mut [u8], out: &mut [u8]) {
+pub fn end_input(rt: &impl Print, input: Input, line: &mut [u8], out: &mut [u8]) {
     if input.size == 0 {
         return;
     }
-    end_line(input, line, out);
+    end_line(rt, input, line, out);
 }
 
 // The line's answer is written, and the next line is begun.
-fn end_line(input: Input, line: &[u8], out: &mut [u8]) -> Input {
+fn end_line(rt: &impl Print, input: Input, line: &[u8], out: &mut [u8]) -> Input {
     let held = input.held;
     if !input.is_heard {
         return next_line(held, false);
@@ -65,14 +70,14 @@ fn end_line(input: Input, line: &[u8], out: &mut [u8]) -> Input {
     let size = input.size;
     if input.is_long {
         let end = put(b"too long", out, 0);
-        return next_line(held, write_answer(end, out));
+        return next_line(held, write_answer(rt, end, out));
     }
     if line.len() < size {
         return next_line(held, false);
     }
     let step = answer(held, &line[0..size], out);
     let after = step.held;
-    next_line(after, write_answer(step.size, out))
+    next_line(after, write_answer(rt, step.size, out))
 }
 
 fn next_line(held: Held, is_heard: bool) -> Input {
@@ -85,18 +90,18 @@ fn next_line(held: Held, is_heard: bool) -> Input {
 }
 
 // The first bytes of the buffer and a line end. An answer that had no room is not cut off.
-fn write_answer(size: usize, out: &mut [u8]) -> bool {
+fn write_answer(rt: &impl Print, size: usize, out: &mut [u8]) -> bool {
     if ANSWER < size {
         let end = put(b"answer too long: digest", out, 0);
-        return write_line(end, out);
+        return write_line(rt, end, out);
     }
-    write_line(size, out)
+    write_line(rt, size, out)
 }
 
-fn write_line(size: usize, out: &mut [u8]) -> bool {
+fn write_line(rt: &impl Print, size: usize, out: &mut [u8]) -> bool {
     let end = put(b"\n", out, size);
     if out.len() < end {
         return false;
     }
-    io::write_all(STDOUT_FILENO, &out[0..end])
+    rt.write_all(&out[0..end]).is_ok()
 }

@@ -28,23 +28,19 @@ ghost use Rattle.std.specs.Prelude.{◌≡◌, length};
 use crate::held::first_held;
 use crate::input::{Input, end_input, take_piece};
 use crate::limits::ANSWER;
-use libc::STDIN_FILENO;
+use std::io;
+use std::io::Read;
 
 // Room for an answer and its line end.
 const OUT: usize = ANSWER + 1;
 
-// What came of a read, and whether there is more.
-#[derive(Clone, Copy)]
-struct Turn {
-    input: Input,
-    more: bool,
-}
+// How much is read at a time, and the longest line.
+const PIECE: usize = 65536;
 
-fn main() {
-    let mut line = io::large_buffer();
+fn main(rt: HostRuntime) -> io::Result<()> {
+    let mut line = [0u8; PIECE];
     let mut out = room();
-    let input = read_all(&mut line, &mut out);
-    end_input(input, &mut line, &mut out);
+    answer_all(&rt, &mut rt.stdin(), &mut line, &mut out)
 }
 
 fn room() -> [u8; OUT]
@@ -53,37 +49,38 @@ fn room() -> [u8; OUT]
     [0u8; OUT]
 }
 
-// A proved loop has to end, and nothing says that the input does. So the loop counts its turns down, from a number that no run uses up.
-fn read_all(line: &mut [u8], out: &mut [u8]) -> Input {
-    let mut piece = io::large_buffer();
+// A proved loop has to end, and nothing says that the input does. So the loop counts its turns, up to a number that no run uses up. Where a read fails the
+// input has ended, as where it gives nothing, and then the error is told; and where nobody takes the answers nothing is read any more.
+fn answer_all<R: Read>(
+    rt: &impl Print,
+    from: &mut R,
+    line: &mut [u8],
+    out: &mut [u8],
+) -> io::Result<()> {
+    let mut piece = [0u8; PIECE];
     let mut input = Input {
         held: first_held(),
         size: 0,
         is_long: false,
         is_heard: true,
     };
-    let mut turns = u64::MAX;
-    while turns > 0 {
-        let turn = read_piece(input, &mut piece, line, out);
-        input = turn.input;
-        if !turn.more {
-            return input;
+    for _ in 0..u64::MAX {
+        match from.read(&mut piece) {
+            Ok(size) => {
+                if size == 0 {
+                    break;
+                }
+                input = take_piece(rt, input, &piece[..size], line, out);
+                if !input.is_heard {
+                    break;
+                }
+            }
+            Err(e) => {
+                end_input(rt, input, line, out);
+                return Err(e);
+            }
         }
-        turns -= 1;
     }
-    input
-}
-
-// One read. Where it fails the input has ended, as where it gives nothing; and where nobody takes the answers nothing is read any more.
-fn read_piece(input: Input, piece: &mut [u8], line: &mut [u8], out: &mut [u8]) -> Turn {
-    let got = libc::read(STDIN_FILENO, piece);
-    let size = io::count(got, piece);
-    if size == 0 {
-        return Turn { input, more: false };
-    }
-    let after = take_piece(input, &piece[0..size], line, out);
-    Turn {
-        input: after,
-        more: after.is_heard,
-    }
+    end_input(rt, input, line, out);
+    Ok(())
 }

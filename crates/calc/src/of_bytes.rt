@@ -105,10 +105,7 @@ fn picked_line<'a>(s: Setting, first: &'a [u8], second: &'a [u8], out: &mut [u8]
 
 // Their place is that of the table's layout, and is told where they do stand there.
 fn put_entries(entries: &[u8], buffer: &[u8], out: &mut [u8], at: usize) -> usize {
-    if !check::same(
-        part(buffer, ENTRIES, later(ENTRIES, entries.len())),
-        entries,
-    ) {
+    if part(buffer, ENTRIES, later(ENTRIES, entries.len())) != entries {
         return put(b" elsewhere", out, at);
     }
     let place = put_spaced(ENTRIES as u64, out, at);

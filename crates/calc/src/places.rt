@@ -48,7 +48,7 @@ pub fn word_end(text: &[u8], i: usize) -> usize {
 
 // Whether this word, and no longer one, stands at place i.
 pub fn is_word(text: &[u8], i: usize, word: &[u8]) -> bool {
-    check::same(part(text, i, word_end(text, i)), word)
+    part(text, i, word_end(text, i)) == word
 }
 
 // The colon after j others, or the end.

@@ -117,7 +117,7 @@ fn number_of(word: &[u8], names: &[u8]) -> u8 {
     while n < VERBS {
         let end = word_end(names, at);
         n += 1;
-        if check::same(part(names, at, end), word) {
+        if part(names, at, end) == word {
             return n;
         }
         at = later(end, 1);
