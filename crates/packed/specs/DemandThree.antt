@@ -3,8 +3,7 @@
 --     demand-3                and that it holds, however the pairs are cut into calls
 --     open-word               the open word is the packed sum of the open batch, and its fields are the coefficients of that sum
 --     any_order               neither order nor cutting matters to closing
---     calls-cut               cutting refuses nothing: where one call with all pairs is taken, so is every call of those that cut them at pairs
-use Rattle.std.specs.Prelude.{ℕ, ◌/◌, ◌%◌, ◌≡◌, false, length}
+use Rattle.std.specs.Prelude.{ℕ, ◌/◌, ◌%◌, ◌≡◌, length}
 use Rattle.std.proofs.Common.{sym, ap, ◌∙◌, arith}
 use mathlib.Core.List.{List, [], ◌∷◌, ◌++◌, append-nil, append_assoc, Perm}
 use Rattle.std.proofs.Math.Nat.{zero-div}
@@ -14,21 +13,20 @@ use Rattle.polynomials.specs.Lists.{coefficient, Pair, Pairs, sum_of_products}
 use Rattle.polynomials.specs.Places.{packed, field}
 use Rattle.polynomials.specs.Pairs.{open_batch}
 use Rattle.polynomials.specs.PairLaws.{pairs-join, sums-order, length-order}
-use Rattle.settings.specs.Answers.{answered, Verdict, fine, refuse, refuses, ◌and_then◌}
+use Rattle.settings.specs.Answers.{answered, Verdict, fine, refuse, ◌and_then◌}
 use Rattle.settings.specs.SharedAnswers.{short_cause}
 use Rattle.settings.specs.AnswerLaws.{once}
 use Rattle.settings.specs.Settings.{setting_checks, base, places}
 use Rattle.packed.specs.Taken.{taken, taken-length}
-use Rattle.packed.specs.Running.{Coherent, closing_at, fed_pairs, close_checks, record_of, Freshens, counted_says, Feeds, closed_says, closed_of, closed-back, Closes}
-use Rattle.packed.specs.Calls.{Call, Calls, Asked, AtPairs, lefts, rights, schoolbook, ClosesTo, sum_of}
+use Rattle.packed.specs.Running.{Coherent, closing_at, fed_pairs, close_checks, record_of, Freshens, closed_says, closed_of, closed-back, Closes}
+use Rattle.packed.specs.Calls.{Call, Calls, lefts, rights, schoolbook, ClosesTo, sum_of}
 use Rattle.packed.specs.FedPairs.{fed_sum, fed-operands}
 use Rattle.packed.specs.RunningChecks.{Told, feed-told, close-pass}
-use Rattle.packed.specs.Joining.{fresh-coherent, fed-coherent, joined-pairs, feed-cut, fed_by, fed-by}
+use Rattle.packed.specs.Joining.{fresh-coherent, fed-coherent, joined-pairs}
 use Rattle.packed.specs.SumOfPairs.{batch-fields, parts-operands, rest-few, closing-sum, sum_more, sum-none}
 use Rattle.settings.specs.declared.setting.Setting.{Setting}
 use Rattle.packed.specs.declared.running.Record.{Record}
 use Rattle.packed.specs.declared.running.Begun.{Begun}
-use Rattle.packed.specs.declared.running.Fed.{Fed}
 use Rattle.packed.specs.declared.running.Closed.{Closed}
 
 pub record Demand3 (s : Setting) (cs : List Pair) (z : Record) : Type 0 where
@@ -108,17 +106,3 @@ module _ (s : Setting) (ok : setting_checks s ≡ fine) where
         once closed_says closed_of closed-back x u (short and_then answered (rounded_up (length ds) s.n)) (rw (length-order cs ds order) at first.0) second.0,
         first.1 ∙ rw sums (sym second.1),
       )
-
--- ---- cutting refuses nothing
-
-pub calls-cut : (r : Record) (calls : List Call) (z : Record) (h : Fed) → AtPairs r.setting.k calls → Asked r calls z → Feeds r (lefts calls) (rights calls) h → refuses (counted_says h.answer) ≡ false
-    → Calls r calls z
-calls-cut r [] z h at-pairs asked whole taken = asked
-calls-cut r (c ∷ calls) z h at-pairs asked whole taken =
-    let us = lefts calls in
-    let vs = rights calls in
-    let cut = feed-cut r c.left c.right us vs h c.gave at-pairs.0 at-pairs.1 whole taken asked.0 in
-    let next : Record = c.gave.running in
-    let same : next.setting ≡ r.setting = ap (λ (r : Record). r.setting) (feed-told r c.left c.right c.gave asked.0 cut.0).after in
-    let rest : refuses (counted_says (fed_by next us vs).answer) ≡ false = (cut.1 (fed_by next us vs) (fed-by next us vs)).0 in
-    (asked.0, cut.0, calls-cut next calls z (fed_by next us vs) (rw same at-pairs.2) asked.1 (fed-by next us vs) rest)

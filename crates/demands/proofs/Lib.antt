@@ -1,0 +1,2 @@
+-- That what is demanded of the calls together holds.
+pub mod DemandTwoLaws
