@@ -1,4 +1,4 @@
-// The library for programs in C and Rust: numbers and slices only. A setting is the four numbers p, k, t, n. Each function makes the calls of the
+// The library for programs in C and Rust, which exports_c hands them: numbers and slices only. A setting is the four numbers p, k, t, n. Each function makes the calls of the
 // library that its name says, and gives what they answer in numbers; it works nothing out itself.
 #![tactic(auto)]
 
@@ -22,8 +22,7 @@ use tables::{build, reduce_by_table};
 use words::{reduce, unpack};
 
 // Choose: the value is the width.
-#[unsafe(no_mangle)]
-pub extern "C" fn sax_choose(p: u64, k: u64, n: u64) -> Reply
+pub fn sax_choose(p: u64, k: u64, n: u64) -> Reply
     ensures { GivesWidth p k n result }
 {
     let chosen = choose(p, k, n);
@@ -34,40 +33,35 @@ pub extern "C" fn sax_choose(p: u64, k: u64, n: u64) -> Reply
 }
 
 // Pack: the value is the word.
-#[unsafe(no_mangle)]
-pub extern "C" fn sax_pack(p: u64, k: u64, t: u64, n: u64, coefficients: &[u16]) -> Reply
+pub fn sax_pack(p: u64, k: u64, t: u64, n: u64, coefficients: &[u16]) -> Reply
     ensures { GivesWord (setting_of p k t n) coefficients.now result }
 {
     of_packed(pack(Setting { p, k, t, n }, coefficients))
 }
 
 // Unpack: the value is the number of fields written.
-#[unsafe(no_mangle)]
-pub extern "C" fn sax_unpack(p: u64, k: u64, t: u64, n: u64, word: u64, out: &mut [u64]) -> Reply
+pub fn sax_unpack(p: u64, k: u64, t: u64, n: u64, word: u64, out: &mut [u64]) -> Reply
     ensures { GivesFields (setting_of p k t n) word out.old result out.new }
 {
     of_wrote(unpack(Setting { p, k, t, n }, word, out))
 }
 
 // Reduce: the value is the reduced word.
-#[unsafe(no_mangle)]
-pub extern "C" fn sax_reduce(p: u64, k: u64, t: u64, n: u64, word: u64) -> Reply
+pub fn sax_reduce(p: u64, k: u64, t: u64, n: u64, word: u64) -> Reply
     ensures { GivesReduced (setting_of p k t n) word result }
 {
     of_packed(reduce(Setting { p, k, t, n }, word))
 }
 
 // Build a table: the value is the number of bytes written.
-#[unsafe(no_mangle)]
-pub extern "C" fn sax_build_table(p: u64, k: u64, t: u64, n: u64, out: &mut [u8]) -> Reply
+pub fn sax_build_table(p: u64, k: u64, t: u64, n: u64, out: &mut [u8]) -> Reply
     ensures { GivesTable (setting_of p k t n) out.old result out.new }
 {
     of_wrote(build(Setting { p, k, t, n }, out))
 }
 
 // Reduce by table: the value is the number of words written.
-#[unsafe(no_mangle)]
-pub extern "C" fn sax_reduce_by_table(
+pub fn sax_reduce_by_table(
     p: u64,
     k: u64,
     t: u64,
@@ -82,16 +76,7 @@ pub extern "C" fn sax_reduce_by_table(
 }
 
 // Product: the value is the number of coefficients written.
-#[unsafe(no_mangle)]
-pub extern "C" fn sax_product(
-    p: u64,
-    k: u64,
-    t: u64,
-    n: u64,
-    a: &[u16],
-    b: &[u16],
-    out: &mut [u16],
-) -> Reply
+pub fn sax_product(p: u64, k: u64, t: u64, n: u64, a: &[u16], b: &[u16], out: &mut [u16]) -> Reply
     ensures { GivesProduct (setting_of p k t n) a.now b.now out.old result out.new }
 {
     of_wrote(product(Setting { p, k, t, n }, a, b, out))
@@ -99,8 +84,7 @@ pub extern "C" fn sax_product(
 
 // Sum: a fresh record, fed with all pairs, size of them in a call, and closed; the value is the number of reductions. Neither the answer nor what is
 // written depends on size.
-#[unsafe(no_mangle)]
-pub extern "C" fn sax_sum(
+pub fn sax_sum(
     p: u64,
     k: u64,
     t: u64,
@@ -126,8 +110,7 @@ pub extern "C" fn sax_sum(
 }
 
 // Lane sum: the value is the word, unreduced. The lane record is made here.
-#[unsafe(no_mangle)]
-pub extern "C" fn sax_lane_sum(p: u64, k: u64, t: u64, n: u64, xs: &[u16], ys: &[u16]) -> LaneReply
+pub fn sax_lane_sum(p: u64, k: u64, t: u64, n: u64, xs: &[u16], ys: &[u16]) -> LaneReply
     ensures { GivesLaneSum (setting_of p k t n) xs.now ys.now result }
 {
     match make(Setting { p, k, t, n }) {
@@ -137,8 +120,7 @@ pub extern "C" fn sax_lane_sum(p: u64, k: u64, t: u64, n: u64, xs: &[u16], ys: &
 }
 
 // Lane reduction: the value is the reduced word.
-#[unsafe(no_mangle)]
-pub extern "C" fn sax_lane_reduce(p: u64, k: u64, t: u64, n: u64, word: f64) -> LaneReply
+pub fn sax_lane_reduce(p: u64, k: u64, t: u64, n: u64, word: f64) -> LaneReply
     ensures { GivesLaneReduced (setting_of p k t n) word result }
 {
     match make(Setting { p, k, t, n }) {

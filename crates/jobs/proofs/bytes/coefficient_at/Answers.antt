@@ -8,10 +8,10 @@ use Rattle.jobs.proofs.bytes.coefficient_at.Goals as goal
 room : (c : After-wide_byte-2) → c.wide_byte.result * 256 + c.wide_byte-2.result < 65536
 room c =
     let i = c.args.i in
-    omega (arith, c.shared_slice_known-1.given (2 * i), c.shared_slice_known-1.given (2 * i + 1))
+    omega (arith, c.type_inv.bytes (2 * i), c.type_inv.bytes (2 * i + 1))
 
 pub overflow_mul-result : goal.overflow_mul-result
-overflow_mul-result c = omega (arith, c.shared_slice_known-1.given (2 * c.args.i))
+overflow_mul-result c = omega (arith, c.type_inv.bytes (2 * c.args.i))
 
 pub overflow_add-result : goal.overflow_add-result
 overflow_add-result c = omega (arith, room c)

@@ -13,7 +13,7 @@ use Rattle.jobs.specs.States.{settled, pairs_after, header_after}
 use Rattle.jobs.specs.Adding.{Adding}
 use Rattle.jobs.specs.declared.state.State.{State}
 use Rattle.jobs.specs.HeaderLaws.{header-passed, header-adding, header-opened}
-use Rattle.jobs.proofs.header.open.Goals.{After-running-1, In_default}
+use Rattle.jobs.proofs.header.open.Goals.{After-fresh-begun, In_default}
 use Rattle.jobs.proofs.header.open.Goals as goal
 
 module _ (header rest : List ℕ) (all : length header ≡ header_bytes) where
@@ -30,7 +30,7 @@ module _ (header rest : List ℕ) (all : length header ≡ header_bytes) where
 passed : (c : In_default) → header_checks c.args.header.now ≡ fine
 passed c = sym c.check_header.ensures ∙ ap checked_says c.in_default.is
 
-begun : (c : After-running-1) → c.fresh-begun.result.running ≡ record_of (setting_in c.args.header.now) fresh_sum
+begun : (c : After-fresh-begun) → c.fresh-begun.result.running ≡ record_of (setting_in c.args.header.now) fresh_sum
 begun c = c.fresh-begun.ensures.1 ∙ ap (λ (s : Setting). record_of s fresh_sum) c.setting_in.ensures
 
 pub returns-in-Refused : goal.returns-in-Refused
@@ -42,8 +42,8 @@ declared_pairs-requires c = (c.requires, passed (goal.at.declared_pairs-requires
 
 pub add_bytes-requires : goal.add_bytes-requires
 add_bytes-requires c =
-    adds c.args.header.now c.args.rest.now c.requires (passed (goal.at.add_bytes-requires c).In_default) _ _ (begun (goal.at.add_bytes-requires c).After-running-1) c.declared_pairs.ensures
+    adds c.args.header.now c.args.rest.now c.requires (passed (goal.at.add_bytes-requires c).In_default) _ _ (begun (goal.at.add_bytes-requires c).After-fresh-begun) c.declared_pairs.ensures
 
 pub returns : goal.returns
 returns c =
-    at-pairs c.args.header.now c.args.rest.now c.requires (passed (goal.at.returns c).In_default) _ _ (begun (goal.at.returns c).After-running-1) c.declared_pairs.ensures _ c.add_bytes.ensures
+    at-pairs c.args.header.now c.args.rest.now c.requires (passed (goal.at.returns c).In_default) _ _ (begun (goal.at.returns c).After-fresh-begun) c.declared_pairs.ensures _ c.add_bytes.ensures

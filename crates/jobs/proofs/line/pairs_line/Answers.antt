@@ -7,7 +7,7 @@ use Rattle.settings.specs.Settings.{InRange}
 use Rattle.texts.specs.PuttingLaws.{puts-size}
 use Rattle.jobs.specs.FinishLaws.{adding-early, adding-range, closed-never, closed-line}
 use borrow.Author.Rules.{rules}
-use Rattle.jobs.proofs.line.pairs_line.Goals.{After-struct_known-2-1}
+use Rattle.jobs.proofs.line.pairs_line.Goals.{In-Reductions}
 use Rattle.jobs.proofs.line.pairs_line.Goals as goal
 
 pub shape_of-out-then-sum-pairs : goal.shape_of-out-then-sum-pairs
@@ -30,23 +30,25 @@ returns-in_default c =
     absurd (closed-never c.args.running c.args.pairs c.requires (replicate 15 0) close.result close.new.out (omega arith) close.ensures _ c.in_default.is)
 
 -- the setting is in range
-range : (c : After-struct_known-2-1) → InRange c.args.running.setting
+range : (c : In-Reductions) → InRange c.args.running.setting
 range c =
     adding-range c.args.running c.args.pairs c.requires
 
 pub overflow_mul-places : goal.overflow_mul-places
-overflow_mul-places c = omega (arith, (range c).choice.k_high)
+overflow_mul-places c = omega (arith, (range (goal.at.overflow_mul-places c).In-Reductions).choice.k_high)
 
 pub overflow_sub-places : goal.overflow_sub-places
-overflow_sub-places c = omega (arith, (range c).choice.k_low)
+overflow_sub-places c = omega (arith, (range (goal.at.overflow_sub-places c).In-Reductions).choice.k_low)
 
 pub slice_bounds-sums-end : goal.slice_bounds-sums-end
 slice_bounds-sums-end c =
     let size : length c.close.new.out ≡ 15 = search rules in
-    omega (arith, (range c).choice.k_high)
+    omega (arith, (range (goal.at.slice_bounds-sums-end c).In-Reductions).choice.k_high)
 
 pub slice_bounds-sums_line-end : goal.slice_bounds-sums_line-end
-slice_bounds-sums_line-end c = sym (length-take-le _ c.close.new.out (slice_bounds-sums-end (goal.at.slice_bounds-sums_line-end c).After-struct_known-2-1))
+slice_bounds-sums_line-end c =
+    let size : length c.close.new.out ≡ 15 = search rules in
+    sym (length-take-le _ c.close.new.out (omega (arith, (range (goal.at.slice_bounds-sums_line-end c).In-Reductions).choice.k_high)))
 
 pub shape_of-out : goal.shape_of-out
 shape_of-out c = puts-size c.sums_line.ensures

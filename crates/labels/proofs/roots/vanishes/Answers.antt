@@ -1,28 +1,22 @@
 -- `vanishes` meets its contract: the values at the first j roots are zero. Assumes nothing.
-use mathlib.Core.Path.{◌≡◌, sym, ap, ◌∙◌}
+use mathlib.Core.Path.{sym, ap, ◌∙◌}
 use mathlib.Core.Bool.{not}
 use native.Mathlib.Omega.{arith}
 use lib.ListN.{length}
 use Rattle.polynomials.specs.IndexLaws.{exceeds-first, exceeds-passed, exceeds-found, exceeds-through}
 use Rattle.labels.specs.Labels.{vanishing}
-use Rattle.labels.specs.Working.{powers_of_three}
 use Rattle.labels.specs.RootLaws.{table-size}
 use Rattle.labels.proofs.roots.vanishes.Invariants.{none, values}
-use Rattle.labels.proofs.roots.vanishes.Goals.{After-table-1}
 use Rattle.labels.proofs.roots.vanishes.Goals as goal
-
--- the table that is lent is the one of powers
-table-known : (c : After-table-1) → c.powers_of_three-table.result ≡ powers_of_three
-table-known c = c.powers_of_three-table.ensures
 
 pub loop-j-init : goal.loop-j-init
 loop-j-init c = exceeds-first c.args.m (values c.args.a.now) none
 
 pub slice_bounds-value_at-end : goal.slice_bounds-value_at-end
-slice_bounds-value_at-end c = sym (ap length (table-known c) ∙ table-size)
+slice_bounds-value_at-end c = sym (ap length c.powers_of_three-table.ensures ∙ table-size)
 
 pub value_at-requires : goal.value_at-requires
-value_at-requires c = (omega (arith, c.requires.0), table-known c, c.requires.1)
+value_at-requires c = (omega (arith, c.requires.0), c.powers_of_three-table.ensures, c.requires.1)
 
 pub returns-then-value_at-gt0 : goal.returns-then-value_at-gt0
 unfolding vanishing

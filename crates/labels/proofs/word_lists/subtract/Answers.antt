@@ -5,14 +5,14 @@ use lib.ListN.{length-set}
 use Rattle.polynomials.specs.IndexLaws.{filled_more}
 use Rattle.polynomials.specs.Lists.{coefficient}
 use Rattle.labels.specs.WordLaws.{less_at, still-there, filled-through}
-use Rattle.labels.proofs.word_lists.subtract.Goals.{After-shared_slice_known-in-loop-i-1}
+use Rattle.labels.proofs.word_lists.subtract.Goals.{In-loop-i}
 use Rattle.labels.proofs.word_lists.subtract.Goals as goal
 
 pub loop-i-init : goal.loop-i-init
 loop-i-init c = (omega arith, refl, refl)
 
 -- what is read is as it was
-kept : (c : After-shared_slice_known-in-loop-i-1) → coefficient c.loop-i.out c.loop-i.i ≡ coefficient c.args.out.now c.loop-i.i
+kept : (c : In-loop-i) → coefficient c.loop-i.out c.loop-i.i ≡ coefficient c.args.out.now c.loop-i.i
 kept c =
     let a = c.args in
     let l = c.loop-i in
@@ -22,14 +22,14 @@ pub take_away-requires : goal.take_away-requires
 take_away-requires c =
     let pre = c.requires in
     let l = c.loop-i in
-    (rw (kept c) (pre.1 l.i), pre.2 l.i)
+    (rw (kept (goal.at.take_away-requires c).In-loop-i) (pre.1 l.i), pre.2 l.i)
 
 pub loop-i-preserved : goal.loop-i-preserved
 loop-i-preserved c =
     let a = c.args in
     let l = c.loop-i in (
       omega (arith, l.invariant.2),
-      filled_more (less_at a.out.now a.xs.now) a.out.now l.out l.i c.take_away.result (omega (arith, l.invariant.2)) l.invariant.1 (rw (← kept (goal.at.loop-i-preserved c).After-shared_slice_known-in-loop-i-1) c.take_away.ensures),
+      filled_more (less_at a.out.now a.xs.now) a.out.now l.out l.i c.take_away.result (omega (arith, l.invariant.2)) l.invariant.1 (rw (← kept (goal.at.loop-i-preserved c).In-loop-i) c.take_away.ensures),
       simp length-set l.invariant.2,
     )
 

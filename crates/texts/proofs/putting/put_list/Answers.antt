@@ -17,7 +17,7 @@ pub bounds-ns-i : goal.bounds-ns-i
 bounds-ns-i c = c.loop-i-test.true
 
 pub overflow_cast-ns : goal.overflow_cast-ns
-overflow_cast-ns c = record { fits = lt_of_lt_of_le (c.shared_slice_known-in-loop-i-1.given c.loop-i.i).fits (lit≤ tt) }
+overflow_cast-ns c = record { fits = lt_of_lt_of_le (c.type_inv.ns c.loop-i.i).fits (lit≤ tt) }
 
 pub put_spaced-next-requires : goal.put_spaced-next-requires
 put_spaced-next-requires c = tt
