@@ -2,7 +2,7 @@
 --     coefficient-reverse   place j of a reversed list is place j of the list, counted from its end
 --     reverse-list          a reversed list by these
 --     reverse-below         a list below c, reversed, is below c
-use Rattle.std.specs.Prelude.{ℕ, suc, ◌+◌, ◌-◌, ◌<◌, ◌≡◌, length}
+use Rattle.std.specs.Prelude.{ℕ, suc, ◌-◌, ◌<◌, ◌≡◌, length}
 use Rattle.std.proofs.Common.{sym, ◌∙◌, not-suc-le-zero, arith}
 use mathlib.Core.List.{List, [], ◌∷◌, ◌++◌, reverse, reverse-cons}
 use Rattle.std.proofs.Math.Decide.{dec_lt}

@@ -58,7 +58,6 @@ pub vanishes-requires : goal.vanishes-requires
 vanishes-requires c = (
   rw c.check_count.ensures (count_most c.args.level (readable (goal.at.vanishes-requires c).In_default).level),
   rw (take_at c.turn.new.out _ _ (turned-size (goal.at.vanishes-requires c).After-turn), turned (goal.at.vanishes-requires c).After-turn) (polynomial c.args.words.now c.args.level (readable (goal.at.vanishes-requires c).In_default)),
-
 )
 
 pub returns-then-vanishes : goal.returns-then-vanishes

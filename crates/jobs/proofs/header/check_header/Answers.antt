@@ -56,7 +56,6 @@ begun c = record {
   all = c.requires;
   version = sym c.one.ensures ∙ c.if-one-ne1.false;
   counted = rw c.four-length.ensures at c.if-length-lt-COUNTED.false;
-
 }
 
 accepted : (c : In_default) → setting_checks c.setting_in-s.result ≡ fine
