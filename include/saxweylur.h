@@ -2,7 +2,7 @@
  * Saxweylur for C and C++: arithmetic on polynomials with coefficients modulo p that are packed
  * into one 64-bit word, a coefficient to every t bits.
  *
- * Link with libexports.a, which `rt staticlib exports` writes to target/staticlib. It is for
+ * Link with libexports.a, which `bindings/archive` writes to target/staticlib. It is for
  * x86-64 with the System V calling convention and asks the C library for memset only. The
  * functions in it are proved; this header is not: bindings/check tests it against them.
  *

@@ -1,5 +1,5 @@
 //! Finds libexports.a: in the folder that SAXWEYLUR_LIB_DIR names, or else where
-//! `rt staticlib exports` writes it in the repository.
+//! `bindings/archive` writes it in the repository.
 
 use std::env;
 use std::path::{Path, PathBuf};
@@ -15,7 +15,7 @@ fn main() {
     }
     if !archive.is_file() {
         stop(&format!(
-            "{} is not there: write it with `rt staticlib exports`, or set SAXWEYLUR_LIB_DIR",
+            "{} is not there: write it with `bindings/archive`, or set SAXWEYLUR_LIB_DIR",
             archive.display()
         ));
     }
