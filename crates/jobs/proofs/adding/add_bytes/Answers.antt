@@ -97,8 +97,9 @@ returns-then-bad-end c =
 
 pub returns-then-room-bytes : goal.returns-then-room-bytes
 returns-then-room-bytes c =
+    let more = rw c.bytes_to_come-room.ensures at c.if-room-bytes.true in
     rw c.refused-then-room-bytes.ensures
-    (at-17 c.args.running.setting c.args.running.sum c.args.pairs c.requires c.args.bytes.now c.least-end.result c.first_bad-bad.result (ends_at (goal.at.returns-then-room-bytes c).After-first_bad-bad) c.first_bad-bad.ensures c.if-bad-end.false (rw c.bytes_to_come-room.ensures at c.if-room-bytes.true))
+    (at-17 c.args.running.setting c.args.running.sum c.args.pairs c.requires c.args.bytes.now c.least-end.result c.first_bad-bad.result (ends_at (goal.at.returns-then-room-bytes c).After-first_bad-bad) c.first_bad-bad.ensures c.if-bad-end.false (omega (arith, more)))
 
 pub whole_bytes-whole-requires : goal.whole_bytes-whole-requires
 whole_bytes-whole-requires c = (k-some c.args.running.setting c.args.running.sum c.requires.coherent, k_few c.args.running.setting c.args.running.sum c.requires.coherent)

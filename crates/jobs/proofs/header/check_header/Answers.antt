@@ -95,8 +95,9 @@ nonzero_div-length c = omega (arith, (choice (goal.at.nonzero_div-length c).In_d
 pub returns-then-length-pair_bytes-gt-MOST_PAIRS : goal.returns-then-length-pair_bytes-gt-MOST_PAIRS
 returns-then-length-pair_bytes-gt-MOST_PAIRS c =
     let n = c.four-length.ensures in
+    let many = rw (n, c.pair_bytes-2.ensures, c.setting_in-s.ensures) at c.if-length-pair_bytes-gt-MOST_PAIRS.true in
     at-full _ (begun (goal.at.returns-then-length-pair_bytes-gt-MOST_PAIRS c).Else-length-lt-COUNTED) (rw c.setting_in-s.ensures at (accepted (goal.at.returns-then-length-pair_bytes-gt-MOST_PAIRS c).In_default)) (rw (n, c.pair_bytes.ensures, c.setting_in-s.ensures) at c.if-length-pair_bytes-ne0.false)
-    (rw (n, c.pair_bytes-2.ensures, c.setting_in-s.ensures) at c.if-length-pair_bytes-gt-MOST_PAIRS.true)
+    (omega (arith, many))
 
 pub returns : goal.returns
 returns c =

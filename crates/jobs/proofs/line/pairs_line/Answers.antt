@@ -16,7 +16,7 @@ shape_of-out-then-sum-pairs c = puts-size c.refused_line.ensures
 pub returns-then-sum-pairs : goal.returns-then-sum-pairs
 returns-then-sum-pairs c =
     let a = c.args in
-    rw (adding-early a.running a.pairs c.if-sum-pairs.true) c.refused_line.ensures
+    rw (adding-early a.running a.pairs (omega (arith, c.if-sum-pairs.true))) c.refused_line.ensures
 
 pub slice_bounds-close-end : goal.slice_bounds-close-end
 slice_bounds-close-end c = refl
