@@ -47,8 +47,8 @@ module _ {s : Setting} {u : Sum} {held : ℕ} {xs ys : List ℕ} {i m : ℕ} (pr
   words : sum_of_words (base s) cs ≡ products s.p s.t s.k xs ys i m
   words = run-words s xs ys i m
 
-  word_of : (zs : List ℕ) → Below s.p zs → (r : ℕ) → block_at (2 ^ s.t) s.k (taken s.p zs) r < 2 ^ 32
-  word_of zs h r = bounded.word_fits (block s.k (taken s.p zs) r) (block-operand s.p s.k (taken s.p zs) r (taken-low s.p zs h))
+  word-of : (zs : List ℕ) → Below s.p zs → (r : ℕ) → block_at (2 ^ s.t) s.k (taken s.p zs) r < 2 ^ 32
+  word-of zs h r = bounded.word_fits (block s.k (taken s.p zs) r) (block-operand s.p s.k (taken s.p zs) r (taken-low s.p zs h))
 
   pub multiplying : Multiplying s.p s.t s.k xs ys i m u.word
   multiplying = record {
@@ -58,8 +58,8 @@ module _ {s : Setting} {u : Sum} {held : ℕ} {xs ys : List ℕ} {i m : ℕ} (pr
     near = pre.near;
     left_room = pre.left_room;
     right_room = pre.right_room;
-    left_fits = word_of xs pre.left_below;
-    right_fits = word_of ys pre.right_below;
+    left_fits = word-of xs pre.left_below;
+    right_fits = word-of ys pre.right_below;
     total = rw words at (open-room s u pre.coherent cs operands few);
   }
 
