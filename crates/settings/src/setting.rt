@@ -28,6 +28,7 @@ pub enum Chosen {
 }
 
 // Checks 1 to 6, in order.
+#[tactic(auto, unfolding(crate::specs::Settings::setting_checks))]
 pub fn check(s: Setting) -> Checked
     ensures { Checks s result }
 {
@@ -53,6 +54,7 @@ pub fn check(s: Setting) -> Checked
 }
 
 // Checks 1, 2, 3 and 7; the answer is the smallest width that passes 5 and 6.
+#[tactic(auto, unfolding(crate::specs::Choices::choose_answer, crate::specs::Choices::none_cause))]
 pub fn choose(p: u64, k: u64, n: u64) -> Chosen
     ensures { Chooses p k n result }
 {

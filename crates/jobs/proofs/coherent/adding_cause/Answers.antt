@@ -105,12 +105,12 @@ whole-at c = search rules
 known_at : (c : Else-bytes_to_come-size) → Known c.args.state
 known_at c =
     record {
-      ok = ok_at c.before.before.before.before.before.before.before.before.before.before.before.before.before;
+      ok = sym c.record_cause.ensures ∙ c.if-record_cause.false;
       few = c.if-state-gt-MOST_PAIRS.false;
       added = c.if-state-sum.false;
-      short = short-at c.before.before.before.before;
+      short = rw c.pair_bytes.ensures at c.if-pair_bytes-size.false;
       fits = rw c.bytes_to_come.ensures at c.if-bytes_to_come-size.false;
-      whole = whole-at c.before.before.before.before.before.before.before.before.before.before.before.before.before.before.before.before;
+      whole = search rules;
     }
 
 pub returns-then-record_cause : goal.returns-then-record_cause
