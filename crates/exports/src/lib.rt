@@ -1,5 +1,5 @@
-// The library for programs in C and Rust, which exports_c hands them: numbers and slices only. A setting is the four numbers p, k, t, n. Each function makes the calls of the
-// library that its name says, and gives what they answer in numbers; it works nothing out itself.
+// The library for programs in C and Rust, which exports_c hands them: numbers and slices only. A setting is the four numbers p, k, t, n. Each function
+// makes the calls of the library that its name says, and gives what they answer in numbers; it works nothing out itself.
 #![tactic(auto)]
 
 ghost use Rattle.settings.specs.Settings.{setting_of};
