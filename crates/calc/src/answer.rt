@@ -1,88 +1,67 @@
 // The answer to a line.
 use crate::call::{Call, read_call};
-use crate::faults::{FINE, what};
-use crate::given::{BYTES, COEFFICIENTS, DOUBLE, NO_LIST, read_given};
-use crate::held::{Held, Step};
+use crate::faults::{Failure, Fault};
+use crate::given::{Given, read_given};
+use crate::held::Held;
 use crate::limits::LIST;
+use crate::numbers::number_after;
 use crate::of_bytes::answer_bytes;
 use crate::of_doubles::answer_doubles;
 use crate::of_numbers::answer_numbers;
 use crate::of_polynomials::answer_coefficients;
-use crate::of_words::answer_words;
-use crate::places::{colon, filled, part, word_end};
+use crate::of_words::{answer_word, answer_words};
+use crate::places::{colon, comment, filled, part, word_end};
 use crate::shown::put_fault;
-use crate::verbs;
-use crate::verbs::Form;
-use texts::kinds::{COMMENT, seek};
+use crate::verbs::{Form, Verb, verb_at};
+use texts::putting::put_refusal;
 
-// The line's answer, put into the buffer. What a comment says is not looked at.
-pub fn answer(held: Held, line: &[u8], out: &mut [u8]) -> Step {
-    let text = part(line, 0, seek(line, COMMENT, true, 0));
+// The line's answer, put into the buffer, and its length. What a comment says is not looked at.
+pub fn answer(held: &mut Held, line: &[u8], out: &mut [u8]) -> usize {
+    let text = part(line, 0, comment(line));
     let start = filled(text, 0);
     if text.len() <= start {
-        return Step { held, size: 0 };
+        return 0;
     }
-    let verb = verbs::verb_at(text, start, colon(text, 0) < text.len());
-    if verb == verbs::NO_VERB {
-        let size = put_fault(what(start), out);
-        return Step { held, size };
+    match answer_text(held, text, start, out) {
+        Ok(size) => size,
+        Err(Failure::Fault(fault)) => put_fault(fault, out),
+        Err(Failure::Refused(why)) => put_refusal(why.into(), out, 0),
     }
-    answer_verb(verb, held, text, word_end(text, start), out)
 }
 
-fn answer_verb(verb: u8, held: Held, text: &[u8], verb_end: usize, out: &mut [u8]) -> Step {
-    let form = verbs::form_of(verb);
-    let call = read_call(text, verb_end, form);
-    let fault = call.fault;
-    if fault.kind != FINE {
-        let size = put_fault(fault, out);
-        return Step { held, size };
-    }
-    if form.first == NO_LIST {
-        return answer_numbers(verb, held, call, out);
-    }
-    if form.first == DOUBLE {
-        return answer_doubles(verb, held, call, text, out);
-    }
-    answer_lists(verb, held, call, form, text, out)
-}
-
-fn answer_lists(verb: u8, held: Held, call: Call, form: Form, text: &[u8], out: &mut [u8]) -> Step {
-    let mut xs = [0u64; LIST];
-    let first = read_given(text, 0, form.first, &mut xs);
-    let fault = first.fault;
-    if fault.kind != FINE {
-        let size = put_fault(fault, out);
-        return Step { held, size };
-    }
-    let mut ys = [0u64; LIST];
-    let second = read_given(text, 1, form.second, &mut ys);
-    let fault = second.fault;
-    if fault.kind != FINE {
-        let size = put_fault(fault, out);
-        return Step { held, size };
-    }
-    let m = first.count;
-    let n = second.count;
-    answer_given(verb, form.first, held, call, &xs[0..m], &ys[0..n], out)
-}
-
-// By what the first list is made of.
-fn answer_given(
-    verb: u8,
-    kind: u8,
-    held: Held,
-    call: Call,
-    xs: &[u64],
-    ys: &[u64],
+fn answer_text(
+    held: &mut Held,
+    text: &[u8],
+    start: usize,
     out: &mut [u8],
-) -> Step {
-    if kind < BYTES {
-        let size = answer_words(verb, call, xs, out);
-        return Step { held, size };
+) -> Result<usize, Failure> {
+    let is_set = colon(text, 0) < text.len();
+    let verb = verb_at(text, start, is_set).ok_or(Fault::What(start))?;
+    let form = verb.form();
+    let call = read_call(text, word_end(text, start), form)?;
+    match form.first {
+        None => Ok(answer_numbers(verb, held, call, out)?),
+        Some(Given::Double) => answer_doubles(verb, held, call, text, out),
+        Some(Given::OneWord) => Ok(answer_word(verb, call, number_after(text, 0)?, out)?),
+        Some(_) => answer_lists(verb, held, call, form, text, out),
     }
-    if kind < COEFFICIENTS {
-        return answer_bytes(verb, held, call, xs, ys, out);
-    }
-    answer_coefficients(verb, held, call, xs, ys, out)
+}
+
+fn answer_lists(
+    verb: Verb,
+    held: &mut Held,
+    call: Call,
+    form: Form,
+    text: &[u8],
+    out: &mut [u8],
+) -> Result<usize, Failure> {
+    let mut first = [0u64; LIST];
+    let xs = read_given(text, 0, form.first, &mut first)?;
+    let mut second = [0u64; LIST];
+    let ys = read_given(text, 1, form.second, &mut second)?;
+    Ok(match form.first {
+        Some(Given::Words) => answer_words(call, xs, out)?,
+        Some(Given::Bytes | Given::HeldBytes) => answer_bytes(verb, held, call, xs, ys, out),
+        _ => answer_coefficients(verb, held, call, xs, ys, out)?,
+    })
 }

@@ -1,59 +1,26 @@
-// Lists are copied between elements of 8, 16 and 64 bits. Where one of the two lists is longer, what it has more is left.
-use crate::places::least;
+// Lists are copied between elements of 8, 16 and 64 bits.
 
-pub fn fill(element: u64, out: &mut [u64]) {
-    let mut i = 0;
-    while i < out.len() {
-        out[i] = element;
-        i += 1;
+// Each element as `turn` makes it, as many as there is room for: the part of the buffer that has them.
+pub fn copied<'a, A: Copy, B: Copy, F: Fn(A) -> B>(
+    xs: &[A],
+    out: &'a mut [B],
+    turn: F,
+) -> &'a mut [B]
+    requires { F.IsAlwaysCallable turn }
+{
+    let n = xs.len().min(out.len());
+    for (x, place) in xs.iter().zip(out.iter_mut()) {
+        *place = turn(*x);
     }
+    &mut out[..n]
 }
 
-pub fn store(element: u64, place: u64, out: &mut [u64]) {
-    if place < out.len() as u64 {
-        let at = place as usize;
-        out[at] = element;
-    }
+// The elements of a list of bytes are below 256: reading saw to that.
+pub fn bytes<'a>(xs: &[u64], out: &'a mut [u8]) -> &'a mut [u8] {
+    copied(xs, out, |x| (x % 256) as u8)
 }
 
-pub fn widen(xs: &[u16], out: &mut [u64]) {
-    let mut i = 0;
-    while i < least(xs.len(), out.len()) {
-        out[i] = wide(xs[i]);
-        i += 1;
-    }
-}
-
-pub fn widen_bytes(xs: &[u8], out: &mut [u64]) {
-    let mut i = 0;
-    while i < least(xs.len(), out.len()) {
-        out[i] = wide_byte(xs[i]);
-        i += 1;
-    }
-}
-
-// The elements are below 65,536: reading saw to that.
-pub fn narrow(xs: &[u64], out: &mut [u16]) {
-    let mut i = 0;
-    while i < least(xs.len(), out.len()) {
-        out[i] = (xs[i] % 65536) as u16;
-        i += 1;
-    }
-}
-
-// The same below 256.
-pub fn narrow_bytes(xs: &[u64], out: &mut [u8]) {
-    let mut i = 0;
-    while i < least(xs.len(), out.len()) {
-        out[i] = (xs[i] % 256) as u8;
-        i += 1;
-    }
-}
-
-fn wide(x: u16) -> u64 {
-    x as u64
-}
-
-fn wide_byte(x: u8) -> u64 {
-    x as u64
+// The same below 65,536.
+pub fn coefficients<'a>(xs: &[u64], out: &'a mut [u16]) -> &'a mut [u16] {
+    copied(xs, out, |x| (x % 65536) as u16)
 }

@@ -1,40 +1,53 @@
-// What is wrong with a line, and where.
-use crate::places::later;
-
-pub const FINE: u8 = 0;
-
-// No call: what stands there is none of what may stand there, or it is missing.
-pub const WHAT: u8 = 1;
-
-// A number that is too large for its type.
-pub const LARGE: u8 = 2;
-
-// A number that the list has no room for.
-pub const MANY: u8 = 3;
+// What is wrong with a line, and where; and why a line that can be read has no answer but a refusal.
+use settings::refusals::Refusal;
+use texts::reading::Stop;
 
 #[derive(Clone, Copy)]
-pub struct Fault {
-    pub kind: u8,
-    pub place: usize,
+pub enum Fault {
+    // No call: what stands there is none of what may stand there, or it is missing.
+    What(usize),
+    // A number that is too large for its type.
+    Large(usize),
+    // A number that the list has no room for.
+    Many(usize),
 }
 
-pub const NO_FAULT: Fault = Fault {
-    kind: FINE,
-    place: 0,
-};
-
-pub fn what(place: usize) -> Fault {
-    Fault { kind: WHAT, place }
+impl Fault {
+    // The same fault in a longer text, in which what was read starts later.
+    pub fn moved(self, start: usize) -> Fault {
+        match self {
+            Fault::What(i) => Fault::What(start.saturating_add(i)),
+            Fault::Large(i) => Fault::Large(start.saturating_add(i)),
+            Fault::Many(i) => Fault::Many(start.saturating_add(i)),
+        }
+    }
 }
 
-pub fn large(place: usize) -> Fault {
-    Fault { kind: LARGE, place }
+impl From<Stop> for Fault {
+    fn from(stop: Stop) -> Fault {
+        match stop {
+            Stop::Stray(i) => Fault::What(i),
+            Stop::Large(i) => Fault::Large(i),
+            Stop::Many(i) => Fault::Many(i),
+        }
+    }
 }
 
-// The same fault in a longer text, in which what was read starts later.
-pub fn moved(fault: Fault, start: usize) -> Fault {
-    Fault {
-        kind: fault.kind,
-        place: later(start, fault.place),
+// A line that cannot be read, or a call that is refused.
+#[derive(Clone, Copy)]
+pub enum Failure {
+    Fault(Fault),
+    Refused(Refusal),
+}
+
+impl From<Fault> for Failure {
+    fn from(fault: Fault) -> Failure {
+        Failure::Fault(fault)
+    }
+}
+
+impl From<Refusal> for Failure {
+    fn from(why: Refusal) -> Failure {
+        Failure::Refused(why)
     }
 }

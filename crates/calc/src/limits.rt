@@ -1,4 +1,4 @@
-// What calc holds.
+// What calc holds: there is no heap, so each buffer has a fixed size.
 
 // The most elements of a list, and of what is lent.
 pub const LIST: usize = 16384;

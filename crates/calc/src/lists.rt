@@ -1,92 +1,56 @@
 // The lists of a line. A list is typed out, or a word says what it is; `but` changes elements of either.
-use crate::copies::store;
-use crate::faults::{FINE, Fault, MANY, NO_FAULT, large, what};
+use crate::faults::Fault;
 use crate::made::made;
-use crate::numbers::{Got, none, read};
-use crate::places::{filled, is_word, least, letter, word_end};
-use texts::kinds::{LETTER, kind_of};
+use crate::numbers::{read, read_few};
+use crate::places::{filled, is_word, letter, word_end};
+use texts::kinds::{Kind, kind_of};
 
 // The most numbers after `but`: pairs of a place and an element.
 const CHANGES: usize = 16;
 
-// The elements of a section's list, none above most. Places are those of the section.
-pub fn read_list(section: &[u8], most: u64, out: &mut [u64]) -> Got {
+// The elements of a section's list, none above most: the part of the buffer that has them. Places are those of the section.
+pub fn read_list<'a>(
+    section: &[u8],
+    most: u64,
+    out: &'a mut [u64],
+) -> Result<&'a mut [u64], Fault> {
     let start = filled(section, 0);
     if section.len() <= start {
-        return none(NO_FAULT);
+        return Ok(&mut out[..0]);
     }
-    if kind_of(section[start]) == LETTER {
-        let end = letter(section, word_end(section, start));
-        let got = made(section, start, end, most, out);
-        return changed(section, end, got, most, out);
+    let end = letter(section, word_end(section, start));
+    let list = if kind_of(section[start]) == Kind::Letter {
+        made(section, start, end, most, out)?
+    } else {
+        read(section, 0, end, most, out)?
+    };
+    if end < section.len() {
+        change(section, end, most, list)?;
     }
-    let end = letter(section, 0);
-    let got = read(section, 0, end, most, out);
-    changed(section, end, got, most, out)
+    Ok(list)
 }
 
-// The list with what the word at `start` changes, where there is one.
-fn changed(section: &[u8], start: usize, got: Got, most: u64, out: &mut [u64]) -> Got {
-    let read = got.fault;
-    if read.kind != FINE {
-        return got;
-    }
-    if section.len() <= start {
-        return got;
-    }
-    let fault = change(section, start, got.count, most, out);
-    if fault.kind != FINE {
-        return none(fault);
-    }
-    got
-}
-
-fn change(section: &[u8], start: usize, count: usize, most: u64, out: &mut [u64]) -> Fault {
+// What the word at `start` changes in the list.
+fn change(section: &[u8], start: usize, most: u64, list: &mut [u64]) -> Result<(), Fault> {
     if !is_word(section, start, b"but") {
-        return what(start);
+        return Err(Fault::What(start));
     }
     let numbers = word_end(section, start);
     let end = letter(section, numbers);
-    let mut pairs = [0u64; CHANGES];
-    let given = read(section, numbers, end, u64::MAX, &mut pairs);
-    let fault = given.fault;
-    if fault.kind == MANY {
-        return what(fault.place);
+    let mut room = [0u64; CHANGES];
+    let pairs = read_few(section, numbers, end, u64::MAX, &mut room)?;
+    let (changes, odd) = pairs.as_chunks::<2>();
+    if !odd.is_empty() || end < section.len() {
+        return Err(Fault::What(end));
     }
-    if fault.kind != FINE {
-        return fault;
-    }
-    if given.count % 2 == 1 {
-        return what(end);
-    }
-    if end < section.len() {
-        return what(end);
-    }
-    change_each(&pairs, given.count, start, count, most, out)
-}
-
-// The first `size` numbers, pair by pair.
-fn change_each(
-    pairs: &[u64],
-    size: usize,
-    start: usize,
-    count: usize,
-    most: u64,
-    out: &mut [u64],
-) -> Fault {
-    let end = least(size, pairs.len()) / 2;
-    let mut i = 0;
-    while i < end {
-        let place = pairs[2 * i];
-        let element = pairs[2 * i + 1];
-        if count as u64 <= place {
-            return what(start);
+    for [place, element] in changes {
+        if list.len() as u64 <= *place {
+            return Err(Fault::What(start));
         }
-        if most < element {
-            return large(start);
+        if most < *element {
+            return Err(Fault::Large(start));
         }
-        store(element, place, out);
-        i += 1;
+        list[*place as usize] = *element;
     }
-    NO_FAULT
+    Ok(())
 }

@@ -23,10 +23,7 @@ mod shown;
 mod shown_records;
 mod verbs;
 
-ghost use Rattle.std.specs.Prelude.{◌≡◌, length};
-
-use crate::held::first_held;
-use crate::input::{Input, end_input, take_piece};
+use crate::input::Input;
 use crate::limits::ANSWER;
 use std::io;
 use std::io::Read;
@@ -39,14 +36,8 @@ const PIECE: usize = 65536;
 
 fn main(rt: HostRuntime) -> io::Result<()> {
     let mut line = [0u8; PIECE];
-    let mut out = room();
+    let mut out = [0u8; OUT];
     answer_all(&rt, &mut rt.stdin(), &mut line, &mut out)
-}
-
-fn room() -> [u8; OUT]
-    ensures { 65537 ≡ length result }
-{
-    [0u8; OUT]
 }
 
 // A proved loop has to end, and nothing says that the input does. So the loop counts its turns, up to a number that no run uses up. Where a read fails the
@@ -58,29 +49,22 @@ fn answer_all<R: Read>(
     out: &mut [u8],
 ) -> io::Result<()> {
     let mut piece = [0u8; PIECE];
-    let mut input = Input {
-        held: first_held(),
-        size: 0,
-        is_long: false,
-        is_heard: true,
-    };
+    let mut input = Input::first();
     for _ in 0..u64::MAX {
         match from.read(&mut piece) {
+            Ok(0) => break,
             Ok(size) => {
-                if size == 0 {
-                    break;
-                }
-                input = take_piece(rt, input, &piece[..size], line, out);
-                if !input.is_heard {
+                input.take_piece(rt, &piece[..size], line, out);
+                if !input.is_heard() {
                     break;
                 }
             }
             Err(e) => {
-                end_input(rt, input, line, out);
+                input.end(rt, line, out);
                 return Err(e);
             }
         }
     }
-    end_input(rt, input, line, out);
+    input.end(rt, line, out);
     Ok(())
 }

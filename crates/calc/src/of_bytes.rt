@@ -1,117 +1,99 @@
 // The verbs that are given bytes: those of tables, and of a job.
 use crate::call::Call;
-use crate::copies::{narrow_bytes, widen_bytes};
-use crate::held::{Held, Step, hold_job};
+use crate::copies::{bytes, copied};
+use crate::held::Held;
 use crate::limits::{LIST, MARK};
-use crate::places::{later, least, part};
-use crate::shown::put_wrote;
+use crate::places::part;
+use crate::shown::put_writing;
 use crate::shown_records::job_line;
-use crate::verbs;
+use crate::verbs::Verb;
 use jobs::state::{HELD, Stage, State, take};
 use packed::running::Record;
-use settings::answers::Wrote;
-use settings::refusals::Refusal;
+use settings::refusals::Numbered;
 use settings::setting::Setting;
 use tables::{pick, reduce_by_table};
-use texts::putting::{put, put_spaced, put_words};
+use texts::putting::{put, put_list, put_spaced};
 
 // The first byte of a table's entries.
 const ENTRIES: usize = 8;
 
+// Not inlined: its buffers take stack only while it runs.
+#[inline(never)]
 pub fn answer_bytes(
-    verb: u8,
-    held: Held,
+    verb: Verb,
+    held: &mut Held,
     call: Call,
     xs: &[u64],
     ys: &[u64],
     out: &mut [u8],
-) -> Step {
-    let mut first = [0u8; LIST];
-    narrow_bytes(xs, &mut first);
-    let m = least(xs.len(), LIST);
-    if verb == verbs::TAKE {
-        let job = held.job;
-        return hold_job(held, take(job, &first[0..m]), put(b"taken", out, 0));
+) -> usize {
+    let mut buffer = [0u8; LIST];
+    let first = bytes(xs, &mut buffer);
+    match verb {
+        Verb::Take => {
+            held.job = take(held.job, first);
+            put(b"taken", out, 0)
+        }
+        Verb::SetJob => {
+            held.job = job_of(call, held.running, first);
+            job_line(held.job, out)
+        }
+        Verb::ByTable => put_writing(
+            call.options,
+            &mut [MARK; LIST],
+            out,
+            |list: &mut [u64]| reduce_by_table(call.setting(), first, ys, list),
+        ),
+        _ => {
+            let mut buffer = [0u8; LIST];
+            picked_line(call.setting(), first, bytes(ys, &mut buffer), out)
+        }
     }
-    if verb == verbs::SET_JOB {
-        let set = job_of(call, held.running, xs);
-        return hold_job(held, set, job_line(set, out));
-    }
-    let size = table_line(verb, call, &first[0..m], ys, out);
-    Step { held, size }
 }
 
 // The state with the held record in it. Bytes that are not given are zeros.
-fn job_of(call: Call, running: Record, xs: &[u64]) -> State {
-    let numbers = call.numbers;
+fn job_of(call: Call, running: Record, xs: &[u8]) -> State {
+    let [stage, number, place, size, pairs, _] = call.numbers;
     let mut held = [0u8; HELD];
-    narrow_bytes(xs, &mut held);
+    copied(xs, &mut held, |x| x);
     State {
-        stage: stage_of(numbers[0], numbers[1], numbers[2]),
+        stage: stage_of(stage, Numbered { number, place }),
         held,
-        size: numbers[3] as usize,
-        pairs: numbers[4],
+        size: size as usize,
+        pairs,
         running,
     }
 }
 
-fn stage_of(stage: u64, number: u64, place: u64) -> Stage {
+fn stage_of(stage: u64, why: Numbered) -> Stage {
     match stage {
         0 => Stage::Header,
         1 => Stage::Pairs,
-        _ => Stage::Refused(Refusal { number, place }),
+        _ => Stage::Refused(why),
     }
-}
-
-fn table_line(verb: u8, call: Call, first: &[u8], ys: &[u64], out: &mut [u8]) -> usize {
-    if verb == verbs::BY_TABLE {
-        let mut list = [MARK; LIST];
-        return by_table_into(first, ys, call, &mut list, out);
-    }
-    let mut second = [0u8; LIST];
-    narrow_bytes(ys, &mut second);
-    let n = least(ys.len(), LIST);
-    picked_line(call.setting, first, &second[0..n], out)
-}
-
-fn by_table_into(table: &[u8], xs: &[u64], call: Call, list: &mut [u64], out: &mut [u8]) -> usize {
-    let options = call.options;
-    let n = least(options.size, list.len());
-    let answer = reduce_by_table(call.setting, table, xs, &mut list[0..n]);
-    put_wrote(answer, call, list, out)
-}
-
-// What was written, where elements are bytes.
-pub fn put_bytes(answer: Wrote, call: Call, list: &[u8], out: &mut [u8]) -> usize {
-    let mut wide = [0u64; LIST];
-    widen_bytes(list, &mut wide);
-    put_wrote(answer, call, &wide, out)
 }
 
 // Where the entries stand is not seen in them. So pick is asked again, with nothing for the second buffer: what it hands back then is a part of the first.
-fn picked_line<'a>(s: Setting, first: &'a [u8], second: &'a [u8], out: &mut [u8]) -> usize {
+fn picked_line(s: Setting, first: &[u8], second: &[u8], out: &mut [u8]) -> usize {
     let entries = pick(s, first, second);
-    if entries.len() == 0 {
+    if entries.is_empty() {
         return put(b"none", out, 0);
     }
-    let of_first = pick(s, first, &first[..0]);
-    if of_first.len() == 0 {
+    if pick(s, first, &first[..0]).is_empty() {
         let at = put(b"second", out, 0);
-        return put_entries(entries, second, out, at);
+        put_entries(entries, second, out, at)
+    } else {
+        let at = put(b"first", out, 0);
+        put_entries(entries, first, out, at)
     }
-    let at = put(b"first", out, 0);
-    put_entries(entries, first, out, at)
 }
 
 // Their place is that of the table's layout, and is told where they do stand there.
 fn put_entries(entries: &[u8], buffer: &[u8], out: &mut [u8], at: usize) -> usize {
-    if part(buffer, ENTRIES, later(ENTRIES, entries.len())) != entries {
+    if part(buffer, ENTRIES, entries.len().saturating_add(ENTRIES)) != entries {
         return put(b" elsewhere", out, at);
     }
     let place = put_spaced(ENTRIES as u64, out, at);
     let colon = put(b":", out, place);
-    let mut wide = [0u64; LIST];
-    widen_bytes(entries, &mut wide);
-    let n = least(entries.len(), LIST);
-    put_words(&wide[0..n], out, colon)
+    put_list(entries, out, colon)
 }

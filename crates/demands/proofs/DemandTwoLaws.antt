@@ -1,11 +1,9 @@
 -- Demand 2 holds. It stands here, apart from its definitions, so that an edit of one of these is refused by this proof. Assumes nothing.
 --     demand-2    what Demand2 says of batches, for every accepted setting
-use Prim.Native.Nat.{ℕ, zero, suc, ◌%◌, ◌^◌, ◌≤◌, ◌<◌}
-use Rattle.std.specs.Prelude.{◌≡◌, refl, true, length}
-use Rattle.std.proofs.Common.{sym, ◌∙◌, lt_of_le_of_lt, arith, pow_pos}
-use mathlib.Core.List.{List, [], ◌∷◌, ◌++◌}
+use Rattle.std.proofs.lemmas.Bool.{lt-leb}
+use Rattle.std.specs.Prelude.{◌≡◌, refl, true, length, Result, Ok}
+use Rattle.std.proofs.Common.{sym, ◌∙◌, lt_of_le_of_lt, arith, pow_pos, ℕ, zero, suc, ◌%◌, ◌^◌, ◌≤◌, ◌<◌, List, [], ◌∷◌, ◌++◌, le-ltb}
 use Rattle.std.proofs.Math.ListN.{drop}
-use borrow.Author.Tests.{lt-leb, le-ltb}
 use Rattle.polynomials.specs.IndexLaws.{upto-same}
 use Rattle.polynomials.specs.Lists.{coefficient, Operand, Pair, Pairs, sum_of_products}
 use Rattle.polynomials.specs.Places.{packed, field, fields, sum_of_words}
@@ -24,11 +22,8 @@ use Rattle.packed.specs.SumOfPairs.{batch-fields}
 use Rattle.tables.specs.Tables.{fits, table_checks, ReducesByTable}
 use Rattle.tables.specs.ByTableLaws.{by-table-reduces, by-table-answers}
 use Rattle.settings.specs.declared.setting.Setting.{Setting}
-use Rattle.settings.specs.declared.answers.Packed.{Packed}
-use Rattle.settings.specs.declared.answers.Packed.TheVariants.{Word}
-use Rattle.settings.specs.declared.answers.Wrote.{Wrote}
-use Rattle.settings.specs.declared.answers.Wrote.TheVariants.{Count}
 use Rattle.demands.specs.DemandTwo.{PackedPair, EachPacked, pairs_given, word_of, Batch, Batches, batch_at, words_of, UnpacksTo, GivesSums, Demand2}
+use Rattle.settings.specs.declared.refusals.Refusal.{Refusal}
 
 operand : (s : Setting) (xs : List ℕ) (w : ℕ) → PackedTo s xs w → Operand s.p s.k xs
 operand s xs w h = record { size = omega (arith, h.size); below = h.below }
@@ -70,7 +65,7 @@ module _ (s : Setting) (ok : setting_checks s ≡ fine) (cs : List PackedPair) (
   field_is : (i : ℕ) → field (base s) w i ≡ coefficient (sum_of_products pairs) i
   field_is i = rw word-is (batch-fields s ok pairs (operands s cs given.0) at_most i)
 
-  unpacks-to : (v : ℕ) → Reduces s w (Word v) → UnpacksTo s cs v
+  unpacks-to : (v : ℕ) → Reduces s w (Ok v) → UnpacksTo s cs v
   unfolding places_checks word_checks
   unpacks-to v reduces old after a room unpacks =
       let answer : v ≡ reduced_word s w = (reduce-checked s w v reduces).1 in
@@ -78,16 +73,16 @@ module _ (s : Setting) (ok : setting_checks s ≡ fine) (cs : List PackedPair) (
       let checks : places_checks s v (length old) ≡ fine = rw (ok, lt-leb (2 ^ span_of s) v small, le-ltb (length old) (places s) room) in
       let new : List ℕ = fields (base s) (places s) v in
       let sums : new ≡ schoolbook s pairs = upto-same (places s) (field (base s) v) (λ j. coefficient (sum_of_products pairs) j % s.p) (λ j h. reduce-field s w v j reduces h ∙ rw (field_is j)) in
-      let kept = writes-once (places_checks s v (length old)) new old a (Count (places s)) after (new ++ drop (places s) old) unpacks (writes-filled (places_checks s v (length old)) (places s) (field (base s) v) old (new ++ drop (places s) old) checks refl) in
+      let kept = writes-once (places_checks s v (length old)) new old a (Ok (places s)) after (new ++ drop (places s) old) unpacks (writes-filled (places_checks s v (length old)) (places s) (field (base s) v) old (new ++ drop (places s) old) checks refl) in
       (kept.0, kept.1 ∙ rw sums)
 
-  answers : Reduces s w (Word (reduced_word s w))
+  answers : Reduces s w (Ok (reduced_word s w))
   unfolding reduce_answer
   answers = rw batch-passes
 
-  batch-reduced : (r : Packed) → Reduces s w r → GivesSums s cs r
+  batch-reduced : (r : Result ℕ Refusal) → Reduces s w r → GivesSums s cs r
   batch-reduced r h =
-      let is : r ≡ Word (reduced_word s w) = reduce-once s w r (Word (reduced_word s w)) h answers in
+      let is : r ≡ Ok (reduced_word s w) = reduce-once s w r (Ok (reduced_word s w)) h answers in
       record { word = reduced_word s w; is = is; unpacked = unpacks-to (reduced_word s w) answers }
 
 -- one of some batches
@@ -106,7 +101,7 @@ word_at (cs ∷ bs) zero = refl
 word_at (cs ∷ bs) (suc i) = word_at bs i
 
 module _ (s : Setting) (ok : setting_checks s ≡ fine) (bs : List (List PackedPair)) (given : Batches s bs) where
-  reduces-at : (i : ℕ) → i < length bs → Reduces s (word_of (batch_at bs i)) (Word (reduced_word s (word_of (batch_at bs i))))
+  reduces-at : (i : ℕ) → i < length bs → Reduces s (word_of (batch_at bs i)) (Ok (reduced_word s (word_of (batch_at bs i))))
   reduces-at i l = answers s ok (batch_at bs i) (one_of s bs given i l)
 
   pub demand-2 : Demand2 s bs
@@ -116,15 +111,15 @@ module _ (s : Setting) (ok : setting_checks s ≡ fine) (bs : List (List PackedP
     by_table = tabled;
   }
     where
-      tabled : (buf old after : List ℕ) (a : Wrote) → table_checks s ≡ fine → fits s buf ≡ true → length bs ≤ length old → ReducesByTable s buf (words_of bs) old a after
-          → (a ≡ Count (length bs)) × ((i : ℕ) → i < length bs → GivesSums s (batch_at bs i) (Word (coefficient after i)))
+      tabled : (buf old after : List ℕ) (a : Result ℕ Refusal) → table_checks s ≡ fine → fits s buf ≡ true → length bs ≤ length old → ReducesByTable s buf (words_of bs) old a after
+          → (a ≡ Ok (length bs)) × ((i : ℕ) → i < length bs → GivesSums s (batch_at bs i) (Ok (coefficient after i)))
       tabled buf old after a checked fit room promise =
           let size = words-length bs in
-          let each : (i : ℕ) → i < length (words_of bs) → Reduces s (coefficient (words_of bs) i) (Word (reduced_word s (word_of (batch_at bs i)))) = λ i l. rw (word_at bs i) (reduces-at i (rw size at l)) in
-          let done : a ≡ Count (length (words_of bs)) = by-table-answers s buf (words_of bs) old after a (λ i. reduced_word s (word_of (batch_at bs i))) checked fit (rw size room) each promise in
+          let each : (i : ℕ) → i < length (words_of bs) → Reduces s (coefficient (words_of bs) i) (Ok (reduced_word s (word_of (batch_at bs i)))) = λ i l. rw (word_at bs i) (reduces-at i (rw size at l)) in
+          let done : a ≡ Ok (length (words_of bs)) = by-table-answers s buf (words_of bs) old after a (λ i. reduced_word s (word_of (batch_at bs i))) checked fit (rw size room) each promise in
           let wrote = by-table-reduces s buf (words_of bs) old after (length (words_of bs)) (rw done at promise) in (
             done ∙ rw size,
             λ i l.
-                let here : Reduces s (word_of (batch_at bs i)) (Word (coefficient after i)) = rw (word_at bs i) at (wrote.1 i (rw size l)) in
-                batch-reduced s ok (batch_at bs i) (one_of s bs given i l) (Word (coefficient after i)) here,
+                let here : Reduces s (word_of (batch_at bs i)) (Ok (coefficient after i)) = rw (word_at bs i) at (wrote.1 i (rw size l)) in
+                batch-reduced s ok (batch_at bs i) (one_of s bs given i l) (Ok (coefficient after i)) here,
           )

@@ -10,9 +10,7 @@
 --     GivesSums s cs r        r is such a word
 --     Demand2 s bs            what demand 2 says of such batches
 --     same-list               with the table or without, unpacking leaves the same list
-use Prim.Native.Nat.{ℕ, ◌*◌, ◌+◌, ◌≤◌, ◌<◌}
-use Rattle.std.specs.Prelude.{◌≡◌, true, length, get_or}
-use mathlib.Core.List.{List, [], ◌∷◌, ◌++◌}
+use Rattle.std.specs.Prelude.{◌≡◌, true, length, get_or, Result, Ok, ℕ, ◌*◌, ◌+◌, ◌≤◌, ◌<◌, List, [], ◌∷◌, ◌++◌}
 use Rattle.std.proofs.Math.ListN.{drop}
 use Rattle.polynomials.specs.Lists.{coefficient, Pair}
 use Rattle.settings.specs.Answers.{fine}
@@ -23,10 +21,7 @@ use Rattle.packed.specs.Calls.{schoolbook}
 use Rattle.tables.specs.Tables.{fits, table_checks, ReducesByTable}
 use Rattle.tables.specs.ByTableLaws.{by-table-reduces}
 use Rattle.settings.specs.declared.setting.Setting.{Setting}
-use Rattle.settings.specs.declared.answers.Packed.{Packed}
-use Rattle.settings.specs.declared.answers.Packed.TheVariants.{Word}
-use Rattle.settings.specs.declared.answers.Wrote.{Wrote}
-use Rattle.settings.specs.declared.answers.Wrote.TheVariants.{Count}
+use Rattle.settings.specs.declared.refusals.Refusal.{Refusal}
 
 -- ---- what is given
 
@@ -38,7 +33,7 @@ pub record PackedPair : Type 0 where
 
 abbrev pub EachPacked : Setting → List PackedPair → Type 0
 EachPacked s [] = Unit {0}
-EachPacked s (c ∷ cs) = Packs s c.left (Word c.left_word) × Packs s c.right (Word c.right_word) × EachPacked s cs
+EachPacked s (c ∷ cs) = Packs s c.left (Ok c.left_word) × Packs s c.right (Ok c.right_word) × EachPacked s cs
 
 abbrev pub pairs_given : List PackedPair → List Pair
 pairs_given [] = []
@@ -66,29 +61,29 @@ words_of (cs ∷ bs) = word_of cs ∷ words_of bs
 
 abbrev pub UnpacksTo : Setting → List PackedPair → ℕ → Type 0
 UnpacksTo s cs w =
-    (old after : List ℕ) (a : Wrote) → places s ≤ length old → Unpacks s w old a after
-    → (a ≡ Count (places s)) × (after ≡ schoolbook s (pairs_given cs) ++ drop (places s) old)
+    (old after : List ℕ) (a : Result ℕ Refusal) → places s ≤ length old → Unpacks s w old a after
+    → (a ≡ Ok (places s)) × (after ≡ schoolbook s (pairs_given cs) ++ drop (places s) old)
 
-pub record GivesSums (s : Setting) (cs : List PackedPair) (r : Packed) : Type 0 where
+pub record GivesSums (s : Setting) (cs : List PackedPair) (r : Result ℕ Refusal) : Type 0 where
   pub word : ℕ
-  pub is : r ≡ Word word
+  pub is : r ≡ Ok word
   pub unpacked : UnpacksTo s cs word
 
 pub record Demand2 (s : Setting) (bs : List (List PackedPair)) : Type 0 where
   -- 11 refuses none of the words
   pub words_pass : (i : ℕ) → i < length bs → word_checks s (word_of (batch_at bs i)) ≡ fine
   -- reduced one by one
-  pub reducing : (i : ℕ) → i < length bs → (r : Packed) → Reduces s (word_of (batch_at bs i)) r → GivesSums s (batch_at bs i) r
+  pub reducing : (i : ℕ) → i < length bs → (r : Result ℕ Refusal) → Reduces s (word_of (batch_at bs i)) r → GivesSums s (batch_at bs i) r
   -- reduced by a table that fits, into a list that has room for them
-  pub by_table : (buf old after : List ℕ) (a : Wrote) → table_checks s ≡ fine → fits s buf ≡ true → length bs ≤ length old → ReducesByTable s buf (words_of bs) old a after
-      → (a ≡ Count (length bs)) × ((i : ℕ) → i < length bs → GivesSums s (batch_at bs i) (Word (coefficient after i)))
+  pub by_table : (buf old after : List ℕ) (a : Result ℕ Refusal) → table_checks s ≡ fine → fits s buf ≡ true → length bs ≤ length old → ReducesByTable s buf (words_of bs) old a after
+      → (a ≡ Ok (length bs)) × ((i : ℕ) → i < length bs → GivesSums s (batch_at bs i) (Ok (coefficient after i)))
 
 -- ---- with the table or without
 
 -- of any word: what was reduced by a table, and what was reduced without it
-pub same-list : (s : Setting) (buf ws old after : List ℕ) (m i v : ℕ) → ReducesByTable s buf ws old (Count m) after → i < length ws → Reduces s (coefficient ws i) (Word v)
-    → (out x y : List ℕ) (a b : Wrote) → Unpacks s (coefficient after i) out a x → Unpacks s v out b y → (a ≡ b) × (x ≡ y)
+pub same-list : (s : Setting) (buf ws old after : List ℕ) (m i v : ℕ) → ReducesByTable s buf ws old (Ok m) after → i < length ws → Reduces s (coefficient ws i) (Ok v)
+    → (out x y : List ℕ) (a b : Result ℕ Refusal) → Unpacks s (coefficient after i) out a x → Unpacks s v out b y → (a ≡ b) × (x ≡ y)
 same-list s buf ws old after m i v tabled l reduces out x y a b ha hb =
-    let same : Word (coefficient after i) ≡ Word v = reduce-once s (coefficient ws i) (Word (coefficient after i)) (Word v) ((by-table-reduces s buf ws old after m tabled).1 i l) reduces in
+    let same : Ok (coefficient after i) ≡ Ok v = reduce-once s (coefficient ws i) (Ok (coefficient after i)) (Ok v) ((by-table-reduces s buf ws old after m tabled).1 i l) reduces in
     let number : coefficient after i ≡ v = cc in
     unpack-once s v out a b x y (rw number at ha) hb

@@ -7,7 +7,7 @@
 --     first-works, second-idles
 --                        a feed that works on its first call and idles on the second keeps its promise on the first, and not on the second
 use Rattle.std.specs.Prelude.{ℕ, zero, suc, ◌*◌, ◌≡◌, refl, List, [], ◌∷◌, length, replicate, take}
-use Rattle.std.proofs.Common.{ap, arith}
+use Rattle.std.proofs.Common.{ap, arith, Result, Ok}
 use Rattle.polynomials.specs.Indices.{upto, first, rounded_up}
 use Rattle.polynomials.specs.Places.{fields, shifted}
 use Rattle.settings.specs.Answers.{answered, Verdict, ◌and_then◌, numbers, wrote, left_by}
@@ -22,8 +22,7 @@ use Rattle.packed.specs.Running.{sum_cause, record_cause, closing_at, after_pair
 use Rattle.examples.specs.Compared.{Row, Agree, answering}
 use Rattle.examples.specs.Inputs.{small}
 use Rattle.packed.specs.declared.running.Record.{Record}
-use Rattle.packed.specs.declared.running.Counted.{Counted}
-use Rattle.packed.specs.declared.running.Counted.TheVariants.{Pairs}
+use Rattle.settings.specs.declared.refusals.Refusal.{Refusal}
 
 value : ℕ → List ℕ
 value v = 0 ∷ 0 ∷ v ∷ []
@@ -116,10 +115,10 @@ starred-agree = refl
 -- Such a program has other steps than the proof of feed, so that an edit of the code would show nothing. What rules it out is feed's promise,
 -- computed for document 01's pair: its first call is kept, and the second is not, whatever is answered.
 
-pub first-works : Feeds (fed_times 0) (1 ∷ 2 ∷ []) (2 ∷ 2 ∷ []) (record { running = fed_times 1; answer = Pairs 1 })
+pub first-works : Feeds (fed_times 0) (1 ∷ 2 ∷ []) (2 ∷ 2 ∷ []) (record { running = fed_times 1; answer = Ok 1 })
 unfolding fed_times first setting_checks taken sum_cause record_cause after_pairs feed_overflow pair_checks feed_checks
 first-works = (refl, refl)
 
-pub second-idles : (a : Counted) → Feeds (fed_times 1) (1 ∷ 2 ∷ []) (2 ∷ 2 ∷ []) (record { running = fed_times 1; answer = a }) → ⊥
+pub second-idles : (a : Result ℕ Refusal) → Feeds (fed_times 1) (1 ∷ 2 ∷ []) (2 ∷ 2 ∷ []) (record { running = fed_times 1; answer = a }) → ⊥
 unfolding fed_times first setting_checks taken sum_cause record_cause after_pairs feed_overflow pair_checks feed_checks
 second-idles a h = let word : ◌≡◌ {A = ℕ} 4290 0 = ap (λ (r : Record). r.sum.word) h.1 in omega arith

@@ -9,7 +9,7 @@
 --     sax-sum-never-12, sax-lane-sum-never-12, sax-lane-reduce-never-12
 --                              12 is not among those of sum, whose record is a fresh one, nor of the lane's, whose record is made there
 use Rattle.std.specs.Prelude.{ℕ, ◌<◌, ◌≡◌, refl, false, List, [], ◌∷◌, ◌++◌, ◌↔◌, length, Float}
-use Rattle.std.proofs.Common.{sym, ap, ◌∙◌, true≢false, arith}
+use Rattle.std.proofs.Common.{sym, ap, ◌∙◌, true≢false, arith, Result, Ok, Err}
 use Rattle.polynomials.specs.Indices.{rounded_up}
 use Rattle.settings.specs.Answers.{Answer, answered, refused, Verdict, refuses, ◌and_then◌, Given, Never}
 use Rattle.settings.specs.AnswerLaws.{given-value, given-check, given-after, given-then, given-never}
@@ -28,33 +28,32 @@ use Rattle.lane.specs.Lanes as in_lanes
 use Rattle.lane.specs.Answering.{made_held, held-sum-gives, held-reduce-gives}
 use Rattle.settings.specs.declared.setting.Setting.{Setting}
 use Rattle.lane.specs.declared.Lane.{Lane}
-use Rattle.lane.specs.declared.LaneAnswer.{LaneAnswer}
-use Rattle.lane.specs.declared.Made.{Made}
-use Rattle.lane.specs.declared.Made.TheVariants as in_made
 use Rattle.exports.specs.Replies.{reply_of, lane_reply_of, lane_reply, Tells}
 use Rattle.exports.specs.Exports.{whole_sum_checks, GivesSum, by_made, GivesLaneSum, GivesLaneReduced}
 use Rattle.exports.specs.declared.replies.Reply.{Reply}
 use Rattle.exports.specs.declared.replies.LaneReply.{LaneReply}
+use Rattle.settings.specs.Refusals.{number_of, place_of}
+use Rattle.settings.specs.declared.refusals.Refusal.{Refusal}
 
 -- ---- replies
 
-abbrev number_of : {A : Type 0} → Answer A → ℕ
-number_of (answered v) = 0
-number_of (refused number place) = number
+abbrev number_in : {A : Type 0} → Answer A → ℕ
+number_in (answered v) = 0
+number_in (refused number place) = number
 
-number-0 : {A : Type 0} (a : Answer A) → Never 0 a → (number_of a ≡ 0) ↔ (refuses a ≡ false)
+number-0 : {A : Type 0} (a : Answer A) → Never 0 a → (number_in a ≡ 0) ↔ (refuses a ≡ false)
 number-0 (answered v) h = (λ e. refl, λ e. refl)
 number-0 (refused number place) h = (λ e. absurd (h place (ap (λ (n : ℕ). refused n place) e)), λ e. absurd (true≢false e))
 
-number-never : {A : Type 0} (a : Answer A) (n : ℕ) → 0 < n → Never n a → number_of a ≡ n → ⊥
+number-never : {A : Type 0} (a : Answer A) (n : ℕ) → 0 < n → Never n a → number_in a ≡ n → ⊥
 number-never (answered v) n some h e = omega arith
 number-never (refused number place) n some h e = h place (ap (λ (m : ℕ). refused m place) e)
 
-reply-number : (a : Answer ℕ) → (reply_of a).number ≡ number_of a
+reply-number : (a : Answer ℕ) → (reply_of a).number ≡ number_in a
 reply-number (answered v) = refl
 reply-number (refused number place) = refl
 
-lane-reply-number : (a : Answer Float) → (lane_reply_of a).number ≡ number_of a
+lane-reply-number : (a : Answer Float) → (lane_reply_of a).number ≡ number_in a
 lane-reply-number (answered x) = refl
 lane-reply-number (refused number place) = refl
 
@@ -120,16 +119,16 @@ sax-sum-never-12 s xs ys old r after gives e =
 -- ---- the double lane
 
 -- a promise of the lane, by what it says: some answer that cannot be 12
-told-never-12 : (Keeps : LaneAnswer → Type 0) (r : LaneReply) (a : Answer Float) → Never 12 a → ((x : LaneAnswer) → Keeps x → lane_reply x ≡ lane_reply_of a) → Tells Keeps lane_reply r → r.number ≡ 12 → ⊥
+told-never-12 : (Keeps : Result Float Refusal → Type 0) (r : LaneReply) (a : Answer Float) → Never 12 a → ((x : Result Float Refusal) → Keeps x → lane_reply x ≡ lane_reply_of a) → Tells Keeps lane_reply r → r.number ≡ 12 → ⊥
 told-never-12 Keeps r a none told h e = number-never a 12 (omega arith) none (sym (lane-reply-number a) ∙ sym (ap (λ (r : LaneReply). r.number) (h.is ∙ told h.answer h.keeps)) ∙ e)
 
 -- a refusal of make is none of a record
-unmade-never-12 : (s : Setting) (m : Made) (Then : Lane → LaneReply → Type 0) (r : LaneReply) → in_lanes.Makes s m → by_made m Then r → ((l : Lane) → in_lanes.Makes s (in_made.Lane l) → Then l r → r.number ≡ 12 → ⊥) → r.number ≡ 12 → ⊥
-unmade-never-12 s (in_made.Lane l) Then r makes gives rest e = rest l makes gives e
-unmade-never-12 s (in_made.Refused why) Then r makes gives rest e =
+unmade-never-12 : (s : Setting) (m : Result Lane Refusal) (Then : Lane → LaneReply → Type 0) (r : LaneReply) → in_lanes.Makes s m → by_made m Then r → ((l : Lane) → in_lanes.Makes s (Ok l) → Then l r → r.number ≡ 12 → ⊥) → r.number ≡ 12 → ⊥
+unmade-never-12 s (Ok l) Then r makes gives rest e = rest l makes gives e
+unmade-never-12 s (Err why) Then r makes gives rest e =
     let a : Answer Lane = in_lanes.make_checks s and_then answered (in_lanes.lane_of s) in
-    let is : why.number ≡ 12 = ap (λ (r : LaneReply). r.number) (sym gives) ∙ e in
-    given-never 12 refl (given-then (in_lanes.make-gives s) (given-value (in_lanes.lane_of s))) why.place (sym makes ∙ ap (λ (n : ℕ). refused n why.place) is)
+    let is : number_of why ≡ 12 = ap (λ (r : LaneReply). r.number) (sym gives) ∙ e in
+    given-never 12 refl (given-then (in_lanes.make-gives s) (given-value (in_lanes.lane_of s))) (place_of why) (sym makes ∙ ap (λ (n : ℕ). refused n (place_of why)) is)
 
 pub sax-lane-sum-never-12 : (s : Setting) (xs ys : List ℕ) (r : LaneReply) → GivesLaneSum s xs ys r → r.number ≡ 12 → ⊥
 sax-lane-sum-never-12 s xs ys r h =

@@ -5,26 +5,18 @@
 --                               of a value the reply has 0, 0 and that value
 --     reply-refused, lane-reply-refused
 --                               of a refusal it has the number, the place, and 0
---     chosen_reply, packed_reply, wrote_reply, closed_reply, lane_reply
---                               the reply that each case of an answer of the library is
+--     result_reply, lane_reply  the reply that a result of the library is
 --     Tells Keeps reply r       r is the reply of an answer that keeps the promise Keeps
 --     tells-once                it allows one reply only, where the promise allows one answer only
 --     tells-written-once        and one list, where the promise is of an answer and a list
 use Rattle.std.specs.Prelude.{ℕ, ◌≡◌, refl, List, Float}
-use Rattle.std.proofs.Common.{sym, ap, ◌∙◌}
+use Rattle.std.proofs.Common.{sym, ap, ◌∙◌, Result}
 use Rattle.doubles.specs.Whole.{double}
 use Rattle.settings.specs.Answers.{Answer, answered, refused}
-use Rattle.settings.specs.SharedAnswers.{packed_says, wrote_says}
-use Rattle.settings.specs.Choices.{chosen_says}
-use Rattle.packed.specs.Running.{closed_says}
-use Rattle.lane.specs.Lanes.{lane_says}
-use Rattle.settings.specs.declared.setting.Chosen.{Chosen}
-use Rattle.settings.specs.declared.answers.Packed.{Packed}
-use Rattle.settings.specs.declared.answers.Wrote.{Wrote}
-use Rattle.packed.specs.declared.running.Closed.{Closed}
-use Rattle.lane.specs.declared.LaneAnswer.{LaneAnswer}
 use Rattle.exports.specs.declared.replies.Reply.{Reply}
 use Rattle.exports.specs.declared.replies.LaneReply.{LaneReply}
+use Rattle.settings.specs.Refusals.{says}
+use Rattle.settings.specs.declared.refusals.Refusal.{Refusal}
 
 abbrev pub reply_of : Answer ℕ → Reply
 reply_of (answered v) = record { number = 0; place = 0; value = v }
@@ -46,20 +38,11 @@ lane-reply-value x = (refl, refl, refl)
 pub lane-reply-refused : (number place : ℕ) → ((lane_reply_of (refused number place)).number ≡ number) × ((lane_reply_of (refused number place)).place ≡ place) × ((lane_reply_of (refused number place)).value ≡ double 0)
 lane-reply-refused number place = (refl, refl, refl)
 
-abbrev pub chosen_reply : Chosen → Reply
-chosen_reply a = reply_of (chosen_says a)
+abbrev pub result_reply : Result ℕ Refusal → Reply
+result_reply a = reply_of (says a)
 
-abbrev pub packed_reply : Packed → Reply
-packed_reply a = reply_of (packed_says a)
-
-abbrev pub wrote_reply : Wrote → Reply
-wrote_reply a = reply_of (wrote_says a)
-
-abbrev pub closed_reply : Closed → Reply
-closed_reply a = reply_of (closed_says a)
-
-abbrev pub lane_reply : LaneAnswer → LaneReply
-lane_reply a = lane_reply_of (lane_says a)
+abbrev pub lane_reply : Result Float Refusal → LaneReply
+lane_reply a = lane_reply_of (says a)
 
 pub record Tells {A R : Type 0} (Keeps : A → Type 0) (reply : A → R) (r : R) : Type 0 where
   pub answer : A

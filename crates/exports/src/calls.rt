@@ -1,22 +1,16 @@
 // Pairs fed to a record in calls of a given size.
-ghost use Rattle.std.specs.Prelude.{◌≡◌, ◌<◌, min, length};
+ghost use Rattle.std.specs.Prelude.{◌≡◌, ◌<◌, length};
 ghost use Rattle.packed.specs.Running.{Coherent, Feeds};
 
-use packed::running::{Counted, Fed, Record, feed};
+use packed::running::{Fed, Record, feed};
 
 // What one call with all pairs gives, size pairs at a time. Lists of two lengths have no pairs, and a size of 0 cuts nothing: they go to feed as they are.
 pub fn feed_in_calls(running: Record, xs: &[u16], ys: &[u16], size: usize) -> Fed
     requires { Coherent running.setting running.sum }
     ensures { Feeds running xs.now ys.now result }
 {
-    if xs.len() != ys.len() {
-        return feed(running, xs, ys);
-    }
-    if size == 0 {
-        return feed(running, xs, ys);
-    }
     let k = running.setting.k as usize;
-    if xs.len() / k < size {
+    if xs.len() != ys.len() || size == 0 || xs.len() / k < size {
         return feed(running, xs, ys);
     }
     feed_steps(running, xs, ys, size * k)
@@ -30,27 +24,18 @@ fn feed_steps(running: Record, xs: &[u16], ys: &[u16], step: usize) -> Fed
 {
     let mut so_far = running;
     let mut pairs = 0;
-    let mut at = 0;
-    while at < xs.len() {
-        let end = at + least(step, xs.len() - at);
+    for at in (0..xs.len()).step_by(step) {
+        let end = at + step.min(xs.len() - at);
         let fed = feed(so_far, &xs[at..end], &ys[at..end]);
-        let taken = fed.answer;
-        let Counted::Pairs(more) = taken else {
+        let Ok(more) = fed.answer else {
             return feed(running, xs, ys);
         };
         pairs += more;
         let next = fed.running;
         so_far = next;
-        at = end;
     }
     Fed {
         running: so_far,
-        answer: Counted::Pairs(pairs),
+        answer: Ok(pairs),
     }
-}
-
-fn least(x: usize, y: usize) -> usize
-    ensures { result ≡ min x y }
-{
-    if x < y { x } else { y }
 }

@@ -175,7 +175,7 @@ fn show_pack(rt: &impl Print, p: u64, k: u64, t: u64, n: u64, xs: &[u16]) {
     lines::text(rt, b"pack");
     lines::setting(rt, p, k, t, n);
     lines::text(rt, b" of");
-    lines::coefficients(rt, xs);
+    lines::numbers(rt, xs);
     reply(rt, sax_pack(p, k, t, n, xs));
     lines::end(rt);
 }
@@ -187,7 +187,7 @@ fn show_unpack(rt: &impl Print, p: u64, k: u64, t: u64, n: u64, word: u64, out: 
     lines::number(rt, word);
     reply(rt, sax_unpack(p, k, t, n, word, out));
     lines::text(rt, b":");
-    lines::words(rt, out);
+    lines::numbers(rt, out);
     lines::end(rt);
 }
 
@@ -205,7 +205,7 @@ fn show_table(rt: &impl Print, p: u64, k: u64, t: u64, n: u64, out: &mut [u8]) {
     lines::setting(rt, p, k, t, n);
     reply(rt, sax_build_table(p, k, t, n, out));
     lines::text(rt, b":");
-    lines::bytes(rt, out);
+    lines::numbers(rt, out);
     lines::end(rt);
 }
 
@@ -224,10 +224,10 @@ fn show_by_table(
     lines::text(rt, b" with");
     lines::number(rt, table.len() as u64);
     lines::text(rt, b" of");
-    lines::words(rt, words);
+    lines::numbers(rt, words);
     reply(rt, sax_reduce_by_table(p, k, t, n, table, words, out));
     lines::text(rt, b":");
-    lines::words(rt, out);
+    lines::numbers(rt, out);
     lines::end(rt);
 }
 
@@ -249,7 +249,7 @@ fn show_product(
     lines::list(rt, b);
     reply(rt, sax_product(p, k, t, n, a, b, out));
     lines::text(rt, b":");
-    lines::coefficients(rt, out);
+    lines::numbers(rt, out);
     lines::end(rt);
 }
 
@@ -271,14 +271,14 @@ fn show_sum_into(
     lines::text(rt, b"sum");
     lines::setting(rt, p, k, t, n);
     lines::text(rt, b" of");
-    lines::coefficients(rt, xs);
+    lines::numbers(rt, xs);
     lines::text(rt, b" by");
-    lines::coefficients(rt, ys);
+    lines::numbers(rt, ys);
     lines::text(rt, b" in");
     lines::number(rt, size as u64);
     reply(rt, sax_sum(p, k, t, n, xs, ys, size, out));
     lines::text(rt, b":");
-    lines::coefficients(rt, out);
+    lines::numbers(rt, out);
     lines::end(rt);
 }
 
@@ -295,9 +295,9 @@ fn show_lane_sum(
     lines::text(rt, b"lane sum");
     lines::setting(rt, p, k, t, n);
     lines::text(rt, b" of");
-    lines::coefficients(rt, xs);
+    lines::numbers(rt, xs);
     lines::text(rt, b" by");
-    lines::coefficients(rt, ys);
+    lines::numbers(rt, ys);
     lane_reply(rt, sax_lane_sum(p, k, t, n, xs, ys), other);
 }
 

@@ -6,7 +6,6 @@ ghost use Rattle.jobs.specs.States.{line_of};
 ghost use Rattle.jobs.specs.Texts.{longest_line};
 
 use jobs::state::{LONGEST_LINE, Stage, State, finish, start, take};
-use settings::answers::Wrote;
 use std::io;
 use std::io::Read;
 
@@ -37,12 +36,7 @@ fn read_job<R: Read>(input: &mut R) -> io::Result<State> {
 
 // Bytes after a refusal cannot change the line, and are left unread.
 fn is_open(state: State) -> bool {
-    let stage = state.stage;
-    match stage {
-        Stage::Header => true,
-        Stage::Pairs => true,
-        Stage::Refused(r) => false,
-    }
+    !matches!(state.stage, Stage::Refused(_))
 }
 
 fn write_line(rt: &impl Print, state: State) -> io::Result<()> {
@@ -56,8 +50,5 @@ fn put_line(state: State, line: &mut [u8]) -> usize
     requires { length line.old ≡ longest_line }
     ensures { (result ≡ length (line_of state)) × (line.new ≡ line_of state ++ drop result line.old) }
 {
-    let Wrote::Count(size) = finish(state, line) else {
-        return 0;
-    };
-    size
+    finish(state, line).unwrap_or(0)
 }

@@ -6,10 +6,8 @@
 --     sum-after-join, sum-after-none                    bytes one after the other are added up as joined bytes are; less than a pair adds nothing
 --     sum-total, sum-coherent               how many pairs were added; a coherent record stays so
 --     pairs_below                           pairs of coefficients below p are operands
-use Prim.Native.Nat.{ℕ, ◌+◌, ◌-◌, ◌*◌, ◌/◌, ◌≤◌, ◌<◌}
-use Rattle.std.specs.Prelude.{◌≡◌}
+use Rattle.std.specs.Prelude.{◌≡◌, ℕ, ◌+◌, ◌-◌, ◌*◌, ◌/◌, ◌≤◌, ◌<◌, List, ◌++◌}
 use Rattle.std.proofs.Common.{sym, ap, ◌∙◌, add_comm, mul-div_cancel, mul_assoc, arith, length-append}
-use mathlib.Core.List.{List, ◌++◌}
 use Rattle.std.proofs.Math.Nat.{add-mul-div_right, div-div-eq-div-mul, div-eq_of_lt}
 use Rattle.std.proofs.Math.ListN.{length, get_or-append}
 use Rattle.polynomials.specs.IndexLaws.{upto-same, upto-join}

@@ -24,7 +24,7 @@ use Rattle.settings.specs.Coefficients.{first_bad, coefficient_check, coefficien
 use Rattle.settings.specs.Bounds.{bounds}
 use Rattle.packed.specs.Running.{record_cause, record_full_cause, record_of}
 use Rattle.packed.specs.RunningLaws.{coherent-is}
-use Rattle.settings.specs.declared.refusals.Refusal.{Refusal}
+use Rattle.settings.specs.declared.refusals.Numbered.{Numbered}
 use Rattle.settings.specs.declared.setting.Setting.{Setting}
 use Rattle.packed.specs.declared.running.Sum.{Sum}
 use Rattle.packed.specs.declared.running.Record.{Record}
@@ -65,7 +65,7 @@ pub heading-coherent : (bs : List ℕ) → ((j : ℕ) → coefficient bs j ≤ 2
 unfolding state_cause
 heading-coherent bs small h = rw (lt-leb header_bytes (length bs) h, unused-passes held_bytes bs small, blank-passes)
 
-pub settled-coherent : (r : Refusal) → refusal_cause r ≡ false → state_cause (settled r.number r.place) ≡ false
+pub settled-coherent : (r : Numbered) → refusal_cause r ≡ false → state_cause (settled r.number r.place) ≡ false
 unfolding state_cause
 settled-coherent r e = rw (e, unused-passes held_bytes [] (λ j. omega arith), blank-passes)
 

@@ -5,8 +5,8 @@
 --     BytesFed                the bytes before place i are fed, whole pairs
 --     bytes-fed-none, fed-block-fits, bytes-fed-more, some_more, bytes-fed-all
 --                             a loop that feeds them: at its start; what is next is a block; after it; there is more of it; at its end
---     block_bytes, block-bytes-most
---                             the most bytes of a block
+--     block_bytes, block-bytes-most, some_block
+--                             the most bytes of a block: they are not none
 use Rattle.std.specs.Prelude.{ℕ, suc, ◌+◌, ◌-◌, ◌*◌, ◌/◌, ◌%◌, ◌≤◌, ◌<◌, min, ◌≡◌, List, [], ◌++◌, length, take, drop}
 use Rattle.std.proofs.Common.{sym, ap, ◌∙◌, add-mul, le_of_mul-le-mul_right, div-mul-le_self, le_trans, mul-pos, mul_comm, mul_assoc, suc-mul, mul-le-mul_right, mul-div_cancel, mod-lt, div-add-mod', div-lt_iff_lt-mul, arith, length-drop, take-append-drop, get_or-take, take_all, length-take-le}
 use Rattle.std.proofs.Math.Nat.{zero-mod, mul-mod_left}
@@ -161,7 +161,7 @@ module _ (s : Setting) (u : Sum) (bs : List ℕ) (f : Feedable s u bs) where
   b-some : 0 < b
   b-some = omega (arith, (k-some s u f.coherent))
 
-  some_block : 0 < block_bytes s.k
+  pub some_block : 0 < block_bytes s.k
   some_block = mul-pos (go (dec_lt (block_size / s.k) 1)) b-some
     where
       go : Dec (block_size / s.k < 1) → 0 < block_size / s.k
@@ -176,7 +176,7 @@ module _ (s : Setting) (u : Sum) (bs : List ℕ) (f : Feedable s u bs) where
 
   module _ (fed : Record) (i d : ℕ) (h : BytesFed s u bs fed i) (size : d ≡ min (block_bytes s.k) (length bs - i)) where
     abbrev chunk : List ℕ
-    chunk = take (i + d - i) (drop i bs)
+    chunk = take d (drop i bs)
 
     abbrev so : Sum
     so = sum_after s u (take i bs)
@@ -198,13 +198,13 @@ module _ (s : Setting) (u : Sum) (bs : List ℕ) (f : Feedable s u bs) where
     inside-all = omega (arith, size, h.most)
 
     chunk-size : length chunk ≡ d
-    chunk-size = length-take-le (i + d - i) (drop i bs) (rw (length-drop i bs) (omega (arith, inside-all))) ∙ omega arith
+    chunk-size = length-take-le d (drop i bs) (rw (length-drop i bs) (omega (arith, inside-all)))
 
     chunk_count : length chunk / b ≡ now.count
     chunk_count = ap (λ (n : ℕ). n / b) (chunk-size ∙ now.is) ∙ mul-div_cancel now.count b-some
 
     next : take (i + d) bs ≡ take i bs ++ chunk
-    next = let e : d ≡ i + d - i = omega arith in take_more i d bs h.most ∙ ap (λ (n : ℕ). take i bs ++ take n (drop i bs)) e
+    next = take_more i d bs h.most
 
     begun : length (take i bs) ≡ i / b * b
     begun = length-take-le i bs h.most ∙ through

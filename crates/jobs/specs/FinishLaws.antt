@@ -10,7 +10,7 @@
 --     line-fits                      no state's line is longer than the longest
 --     line-room                      so it stands whole in a list with room for the longest that it was put into
 --     finish-short, finish-written   what keeps the promise of finish: 10, and that line put into the buffer
-use Rattle.std.specs.Prelude.{ℕ, ◌≤◌, ◌<◌, ◌≡◌, refl, Bool, true, false, not, List, ◌++◌, ltb, eqb, length, take, drop}
+use Rattle.std.specs.Prelude.{ℕ, ◌≤◌, ◌<◌, ◌≡◌, refl, Bool, true, false, not, List, ◌++◌, ltb, eqb, length, take, drop, Result, Ok, Err}
 use Rattle.std.proofs.Common.{sym, ◌∙◌, true≢false, le_trans, lt_of_le_of_lt, lt_of_lt_of_le, mod-lt, arith, lit<, lit≤, take_at, ne_eqb, lt-ltb, le-ltb, le-leb}
 use Rattle.std.proofs.Math.Bool.{or-true}
 use Rattle.std.proofs.Math.Decide.{dec_lt}
@@ -25,15 +25,14 @@ use Rattle.settings.specs.AnswerLaws.{never}
 use Rattle.settings.specs.SharedAnswers.{writes_nothing}
 use Rattle.settings.specs.Settings.{places, InRange}
 use Rattle.settings.specs.Bounds.{bounds}
-use Rattle.packed.specs.Running.{close_checks, closing_at, closed_says, Closes}
+use Rattle.packed.specs.Running.{close_checks, closing_at, Closes}
 use Rattle.packed.specs.RunningChecks.{close-pass}
 use Rattle.texts.specs.Putting.{Puts}
 use Rattle.texts.specs.PuttingLaws.{puts-size, put-fits}
 use Rattle.settings.specs.declared.refusals.Refusal.{Refusal}
-use Rattle.settings.specs.declared.answers.Wrote.TheVariants as in_wrote
+use Rattle.settings.specs.declared.refusals.Refusal.TheVariants as in_refusal
+use Rattle.settings.specs.declared.refusals.Numbered.{Numbered}
 use Rattle.packed.specs.declared.running.Record.{Record}
-use Rattle.packed.specs.declared.running.Closed.{Closed}
-use Rattle.packed.specs.declared.running.Closed.TheVariants as in_closed
 use Rattle.jobs.specs.Lines.{sums_line, refused_line}
 use Rattle.jobs.specs.States.{refusal_cause, settled_cause, state_cause, adding_line, line_at, line_of, finish_checks, Finishes}
 use Rattle.jobs.specs.Adding.{Adding}
@@ -43,6 +42,7 @@ use Rattle.jobs.specs.LineLaws.{sums-line-short, refused-line-short}
 use Rattle.jobs.specs.declared.state.State.{State}
 use Rattle.jobs.specs.declared.state.Stage.{Stage}
 use Rattle.jobs.specs.declared.state.Stage.TheVariants as in_stage
+use Rattle.settings.specs.Refusals.{number_of, place_of, says}
 
 abbrev pub reductions_of : Record → ℕ
 reductions_of r = rounded_up r.sum.total r.setting.n
@@ -79,8 +79,8 @@ module _ (r : Record) (pairs : ℕ) (h : Adding r.setting r.sum pairs) where
         places_most = rw length-upto few-places;
       }
 
-  module _ (old : List ℕ) (a : Closed) (after : List ℕ) (room : residue_places ≤ length old) (closes : Closes r old a after) where
-    said : closed_says a ≡ answered (reductions_of r)
+  module _ (old : List ℕ) (a : Result ℕ Refusal) (after : List ℕ) (room : residue_places ≤ length old) (closes : Closes r old a after) where
+    said : says a ≡ answered (reductions_of r)
     said = rw (close-fine (length old) room) at closes.0
 
     left : take (places r.setting) after ≡ sums_of r
@@ -89,10 +89,10 @@ module _ (r : Record) (pairs : ℕ) (h : Adding r.setting r.sum pairs) where
         let whole : after ≡ sums ++ drop (length sums) old = rw (close-fine (length old) room) at closes.1 in
         rw whole (take_at sums (drop (length sums) old) (places r.setting) (length-upto (places r.setting) (closing_at r.setting r.sum)))
 
-    pub closed-never : (why : Refusal) → a ≡ in_closed.Refused why → ⊥
-    closed-never why e = never why.number why.place (reductions_of r) (rw e at said)
+    pub closed-never : (why : Refusal) → a ≡ Err why → ⊥
+    closed-never why e = never (number_of why) (place_of why) (reductions_of r) (rw e at said)
 
-    module _ (m : ℕ) (e : a ≡ in_closed.Reductions m) where
+    module _ (m : ℕ) (e : a ≡ Ok m) where
       count : m ≡ reductions_of r
       count = let same : answered m ≡ answered (reductions_of r) = rw e at said in cc
 
@@ -115,7 +115,7 @@ line-at st stage h e = rw (h, e)
 
 -- ---- no line is too long
 
-number-large : (r : Refusal) → 17 < r.number → refusal_cause r ≡ true
+number-large : (r : Numbered) → 17 < r.number → refusal_cause r ≡ true
 number-large r h =
     rw (other 8 (omega arith), other 13 (omega arith), other 17 (omega arith), lt-ltb 6 r.number (omega arith), or-true (ltb r.number 1))
     (or-true (not (eqb r.place 0)))
@@ -123,14 +123,14 @@ number-large r h =
     other : (n : ℕ) → n ≤ 17 → eqb r.number n ≡ false
     other n l = ne_eqb r.number n (λ e. omega arith)
 
-place-large : (r : Refusal) → 16000000 ≤ r.place → refusal_cause r ≡ true
+place-large : (r : Numbered) → 16000000 ≤ r.place → refusal_cause r ≡ true
 place-large r h = go (eqb r.number 8) refl
   where
     go : (b : Bool) → eqb r.number 8 ≡ b → refusal_cause r ≡ true
     go true e = rw (e, le-leb 16000000 r.place h)
     go false e = rw (e, ne_eqb r.place 0 (λ z. omega arith))
 
-settled-fits : (r : Refusal) → refusal_cause r ≡ false → length (refused_line r.number r.place) ≤ longest_line
+settled-fits : (r : Numbered) → refusal_cause r ≡ false → length (refused_line r.number r.place) ≤ longest_line
 settled-fits r h =
     refused-line-short r.number r.place
     (lt_of_le_of_lt (number-most (dec_lt 17 r.number)) (lit< tt))
@@ -183,12 +183,12 @@ module _ (st : State) (blank line : List ℕ) (size : ℕ) (room : longest_line 
   line-there = rw told.1 (take_at (line_of st) _ size (sym told.0))
 
   module _ (old : List ℕ) where
-    pub finish-short : length old < size → Finishes st old (in_wrote.Refused (record { number = 10; place = 0 })) old
+    pub finish-short : length old < size → Finishes st old (Err in_refusal.Short) old
     finish-short h =
-        writes_nothing (finish_checks (line_of st) (length old)) (line_of st) old (record { number = 10; place = 0 })
+        writes_nothing (finish_checks (line_of st) (length old)) (line_of st) old in_refusal.Short
         (rw (lt-ltb (length old) (length (line_of st)) (omega (arith, told.0))))
 
-    pub finish-written : {r : ℕ} {after : List ℕ} → size ≤ length old → Puts 0 (take size line) old r after → Finishes st old (in_wrote.Count r) after
+    pub finish-written : {r : ℕ} {after : List ℕ} → size ≤ length old → Puts 0 (take size line) old r after → Finishes st old (Ok r) after
     finish-written h p =
         let fits : length (line_of st) ≤ length old = omega (arith, told.0) in
         let all = put-fits (rw line-there at p) fits in

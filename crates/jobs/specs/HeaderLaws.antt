@@ -5,8 +5,7 @@
 --                                  the header's checks and numbers do not look at later bytes
 --     header-adding, header-room   after it pairs can be added up, and all that is declared is to come
 --     header-opened                bytes that start with a complete header: its checks are made, and then the bytes after it are taken
-use Prim.Native.Nat.{ℕ, ◌+◌, ◌-◌, ◌/◌, ◌%◌, ◌≤◌}
-use Rattle.std.specs.Prelude.{◌≡◌, not, ◌||◌, List, ◌++◌, eqb, length}
+use Rattle.std.specs.Prelude.{◌≡◌, not, ◌||◌, List, ◌++◌, eqb, length, ℕ, ◌+◌, ◌-◌, ◌/◌, ◌%◌, ◌≤◌}
 use Rattle.std.proofs.Common.{sym, ◌∙◌, mul_comm, div-add-mod', zero-add, arith, length-append, drop_at, le-ltb, ltb-false, eqb-true}
 use Rattle.std.proofs.Math.Path.{ap}
 use Rattle.std.proofs.Math.Bool.{Bool}

@@ -6,16 +6,14 @@
 --                                  calls of take, one after the other, from the state st to z; pieces, all that they were given, joined
 --     state-alone                  from a start the state depends on the joined bytes alone, however they are cut
 --     finish-line                  and finishing gives the job's line
-use Prim.Native.Nat.{ℕ, ◌+◌, ◌-◌, ◌*◌, ◌/◌, ◌≤◌, ◌<◌}
-use Rattle.std.specs.Prelude.{◌≡◌, Bool, true, false, ltb, length, take}
+use Rattle.std.proofs.lemmas.Bool.{lt-leb, ne_eqb}
+use Rattle.std.specs.Prelude.{◌≡◌, Bool, true, false, ltb, length, take, Result, ℕ, ◌+◌, ◌-◌, ◌*◌, ◌/◌, ◌≤◌, ◌<◌, List, [], ◌∷◌, ◌++◌}
 use Rattle.std.proofs.Math.Path.{refl, sym, ap}
-use Rattle.std.proofs.Common.{◌∙◌, mul_comm, mul-le-mul_right, div-lt_iff_lt-mul, arith, length-append, length-take, length-drop, get_or-drop, take_all}
-use mathlib.Core.List.{List, [], ◌∷◌, ◌++◌, append-nil, append_assoc}
+use Rattle.std.proofs.Common.{◌∙◌, mul_comm, mul-le-mul_right, div-lt_iff_lt-mul, arith, length-append, length-take, length-drop, get_or-drop, take_all, append-nil, append_assoc, lt-ltb, le-ltb, eq-eqb}
 use Rattle.std.proofs.Math.Nat.{zero-add, mul-zero, sub-zero}
 use Rattle.std.proofs.Math.Decide.{dec_lt}
 use Rattle.std.proofs.Math.ListN.{drop, get_or-append}
 use Rattle.std.proofs.lemmas.List.{drop-append-le}
-use borrow.Author.Tests.{lt-ltb, le-ltb, lt-leb, eq-eqb, ne_eqb}
 use Rattle.polynomials.specs.Indices.{pick, upto, rounded_up}
 use Rattle.polynomials.specs.Lists.{coefficient}
 use Rattle.polynomials.specs.ListLaws.{coefficient-after}
@@ -28,7 +26,6 @@ use Rattle.settings.specs.Bounds.{bounds}
 use Rattle.packed.specs.Running.{fresh_sum, record_of, closing_at}
 use Rattle.packed.specs.Calls.{schoolbook}
 use Rattle.packed.specs.SumOfPairs.{sum-fresh, closing-sum}
-use Rattle.settings.specs.declared.answers.Wrote.{Wrote}
 use Rattle.settings.specs.declared.setting.Setting.{Setting}
 use Rattle.packed.specs.declared.running.Sum.{Sum}
 use Rattle.jobs.specs.Lines.{sums_line, refused_line}
@@ -42,6 +39,7 @@ use Rattle.jobs.specs.HeaderLaws.{Header, header-passed, header-adding, header-r
 use Rattle.jobs.specs.CoherentLaws.{heading-coherent, settled-coherent, adding-coherent, header-refusal, held_back}
 use Rattle.jobs.specs.declared.state.State.{State}
 use Rattle.jobs.specs.declared.state.Stage.TheVariants as in_stage
+use Rattle.settings.specs.declared.refusals.Refusal.{Refusal}
 
 abbrev pub Bytes : List ℕ → Type 0
 Bytes bs = (j : ℕ) → coefficient bs j ≤ 255
@@ -285,5 +283,5 @@ module _ (st z : State) (calls : List TakeCall) (began : Starts st) (took : Take
   pub state-alone : z ≡ header_after (pieces calls)
   state-alone = reached.1
 
-  pub finish-line : (old after : List ℕ) (r : Wrote) → Finishes z old r after → Writes (finish_checks (job_line (pieces calls)) (length old)) (job_line (pieces calls)) old r after
+  pub finish-line : (old after : List ℕ) (r : Result ℕ Refusal) → Finishes z old r after → Writes (finish_checks (job_line (pieces calls)) (length old)) (job_line (pieces calls)) old r after
   finish-line old after r done = rw (state-alone, line_after (pieces calls) reached.0) at done

@@ -22,7 +22,7 @@
 --     finish_checks line len         10: a buffer of len bytes is lent for the line
 --     finish-gives                  which is the one number that it can give
 --     Starts, Takes, Finishes       the promises of start, take, finish; start-once, take-once, finish-once: each allows one result only
-use Rattle.std.specs.Prelude.{ℕ, ◌+◌, ◌-◌, ◌*◌, ◌/◌, ◌≡◌, Bool, not, ◌||◌, ◌&&◌, List, [], ◌∷◌, ◌++◌, ltb, leb, eqb, length, take, drop}
+use Rattle.std.specs.Prelude.{ℕ, ◌+◌, ◌-◌, ◌*◌, ◌/◌, ◌≡◌, Bool, not, ◌||◌, ◌&&◌, List, [], ◌∷◌, ◌++◌, ltb, leb, eqb, length, take, drop, Result}
 use Rattle.std.proofs.Common.{sym, ◌∙◌}
 use Rattle.polynomials.specs.Indices.{pick, upto, exceeds, rounded_up}
 use Rattle.polynomials.specs.Lists.{coefficient}
@@ -34,8 +34,8 @@ use Rattle.settings.specs.Settings.{places, outside}
 use Rattle.settings.specs.Coefficients.{first_bad}
 use Rattle.packed.specs.Taken.{taken}
 use Rattle.packed.specs.Running.{record_cause, closing_at, after_pairs, fresh_sum, record_of}
-use Rattle.settings.specs.declared.answers.Wrote.{Wrote}
 use Rattle.settings.specs.declared.refusals.Refusal.{Refusal}
+use Rattle.settings.specs.declared.refusals.Numbered.{Numbered}
 use Rattle.settings.specs.declared.setting.Setting.{Setting}
 use Rattle.packed.specs.declared.running.Sum.{Sum}
 use Rattle.packed.specs.declared.running.Record.{Record}
@@ -131,13 +131,13 @@ abbrev pub heading_cause : State → Bool
 heading_cause st = leb header_bytes st.size || (unused_cause st.size st.held || idle_cause st)
 
 -- one that no bytes give
-abbrev pub refusal_cause : Refusal → Bool
+abbrev pub refusal_cause : Numbered → Bool
 refusal_cause r =
     pick (eqb r.number 8)
     (leb (2 * most_coefficients * most_pairs) r.place)
     (not (eqb r.place 0) || (not (eqb r.number 13) && (not (eqb r.number 17) && outside 1 6 r.number)))
 
-abbrev pub settled_cause : Refusal → State → Bool
+abbrev pub settled_cause : Numbered → State → Bool
 settled_cause r st = refusal_cause r || (not (eqb st.size 0) || (unused_cause st.size st.held || idle_cause st))
 
 abbrev pub adding_cause : State → Bool
@@ -204,8 +204,8 @@ finish_checks line len = refuse (short_cause (length line) len) 10 0
 pub finish-gives : (line : List ℕ) (len : ℕ) → Given (10 ∷ []) (finish_checks line len)
 finish-gives line len = given-check (short_cause (length line) len) 10 0
 
-abbrev pub Finishes : State → List ℕ → Wrote → List ℕ → Type 0
+abbrev pub Finishes : State → List ℕ → Result ℕ Refusal → List ℕ → Type 0
 Finishes st old r after = Writes (finish_checks (line_of st) (length old)) (line_of st) old r after
 
-pub finish-once : (st : State) (old : List ℕ) (a b : Wrote) (x y : List ℕ) → Finishes st old a x → Finishes st old b y → (a ≡ b) × (x ≡ y)
+pub finish-once : (st : State) (old : List ℕ) (a b : Result ℕ Refusal) (x y : List ℕ) → Finishes st old a x → Finishes st old b y → (a ≡ b) × (x ≡ y)
 finish-once st old a b x y = writes-once (finish_checks (line_of st) (length old)) (line_of st) old a b x y

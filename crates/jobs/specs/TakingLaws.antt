@@ -9,17 +9,15 @@
 --     pairs-on, checks-stay        bytes after others: they are taken after what is held of those; after a refusal nothing changes
 --     adds stage                   whether pairs are added up at a stage
 --     came-adding, came-other      after a whole pair the other bytes are taken, or nothing changes
-use Prim.Native.Nat.{ℕ, ◌+◌, ◌-◌, ◌*◌, ◌/◌, ◌%◌, ◌≤◌, ◌<◌}
-use Rattle.std.specs.Prelude.{◌≡◌, Bool, true, false, ltb, drop}
+use Rattle.std.proofs.lemmas.Bool.{lt-leb}
+use Rattle.std.specs.Prelude.{◌≡◌, Bool, true, false, ltb, drop, ℕ, ◌+◌, ◌-◌, ◌*◌, ◌/◌, ◌%◌, ◌≤◌, ◌<◌, List, [], ◌++◌}
 use Rattle.std.proofs.Math.Path.{refl, sym, ap}
-use Rattle.std.proofs.Common.{◌∙◌, true≢false, mul_comm, mul-add, add-mul, mul-div_cancel, one-mul, le_of_mul-le-mul_right, div-add-mod', mod-lt, arith, length-take, length-drop, take-append-drop, get_or-take, length-take-le}
-use mathlib.Core.List.{List, [], ◌++◌, append_assoc}
+use Rattle.std.proofs.Common.{◌∙◌, true≢false, mul_comm, mul-add, add-mul, mul-div_cancel, one-mul, le_of_mul-le-mul_right, div-add-mod', mod-lt, arith, length-take, length-drop, take-append-drop, get_or-take, length-take-le, append_assoc, lt-ltb, le-ltb, ltb-false}
 use Rattle.std.proofs.Math.Nat.{mul-mod_left, div_self}
 use Rattle.std.proofs.Math.Decide.{dec_lt}
 use Rattle.std.proofs.Math.ListN.{length, take, length-append, get_or-append}
 use Rattle.std.proofs.Math.Seq.{take_all, drop-length, take-append-add, drop-append-add}
 use Rattle.std.proofs.lemmas.List.{take-append-le}
-use borrow.Author.Tests.{lt-ltb, le-ltb, ltb-false, lt-leb}
 use Rattle.polynomials.specs.Indices.{First}
 use Rattle.polynomials.specs.IndexLaws.{upto-at, first-is, first-only}
 use Rattle.polynomials.specs.Lists.{coefficient, Below}

@@ -1,16 +1,16 @@
 // Pairs: coefficients are tested in input order, whole pairs are fed to the running record in blocks, and the rest is held.
-ghost use Rattle.std.specs.Prelude.{◌≡◌, false, ◌++◌, ◌+◌, ◌-◌, ◌*◌, ◌^◌, ◌≤◌};
+ghost use Rattle.std.specs.Prelude.{◌≡◌, false, ◌++◌, ◌+◌, ◌*◌, ◌^◌, ◌≤◌};
 ghost use Rattle.settings.specs.Limits.{most_coefficients, most_pairs};
 ghost use Rattle.packed.specs.Running.{record_of};
 ghost use Rattle.jobs.specs.Jobs.{pair_bytes};
 ghost use Rattle.jobs.specs.States.{held_in, room, whole_bytes, sum_after, pairs_after, adding_cause};
 ghost use Rattle.jobs.specs.Adding.{Adding, Feedable, Block};
 
-use crate::bytes::{BLOCK, first_bad, joined, least, take_apart};
+use crate::bytes::{BLOCK, first_bad, joined, take_apart};
 use crate::header::refused;
 use crate::state::{Stage, State};
 use packed::running::{Record, feed};
-use settings::refusals;
+use settings::refusals::Refusal;
 
 // The open pair is made whole first, if there is enough for it.
 pub fn take_pairs(state: State, piece: &[u8]) -> State
@@ -20,22 +20,16 @@ pub fn take_pairs(state: State, piece: &[u8]) -> State
     let size = state.size;
     let held = state.held;
     let running = state.running;
-    let s = running.setting;
-    let whole = pair_bytes(s.k) as usize;
-    let end = least(whole - size, piece.len());
+    let whole = pair_bytes(running.setting.k) as usize;
+    let end = (whole - size).min(piece.len());
     let pair = joined(&held[..size], &piece[..end]);
     let next = add_bytes(running, state.pairs, &pair[..size + end]);
     if size + end < whole {
         return next;
     }
-    let stage = next.stage;
-    match stage {
-        Stage::Header => next,
-        Stage::Pairs => {
-            let after = next.running;
-            add_bytes(after, next.pairs, &piece[end..])
-        }
-        Stage::Refused(r) => next,
+    match next.stage {
+        Stage::Pairs => add_bytes(next.running, next.pairs, &piece[end..]),
+        _ => next,
     }
 }
 
@@ -47,20 +41,19 @@ pub fn add_bytes(running: Record, pairs: u64, bytes: &[u8]) -> State
     let s = running.setting;
     let sum = running.sum;
     let room = bytes_to_come(s.k, pairs - sum.total);
-    let end = least(room, bytes.len());
-    let bad = first_bad(s.p, &bytes[..end]);
-    if bad < end / 2 {
-        return refused(refusals::coefficient(index_in_job(s.k, sum.total, bad)));
+    let end = room.min(bytes.len());
+    if let Some(bad) = first_bad(s.p, &bytes[..end]) {
+        return refused(Refusal::Coefficient(index_in_job(s.k, sum.total, bad)));
     }
     if room < bytes.len() {
-        return refused(refusals::JOB);
+        return refused(Refusal::Job);
     }
     let whole = whole_bytes(s.k, bytes.len());
     State {
         stage: Stage::Pairs,
-        held: joined(&bytes[whole..], &bytes[..0]),
-        size: rest_size(bytes.len(), whole),
-        pairs: pairs,
+        held: joined(&bytes[whole..], &[]),
+        size: bytes.len() - whole,
+        pairs,
         running: feed_bytes(running, &bytes[..whole]),
     }
 }
@@ -73,11 +66,8 @@ fn feed_bytes(running: Record, bytes: &[u8]) -> Record
     let s = running.setting;
     let most = BLOCK / s.k as usize * pair_bytes(s.k) as usize;
     let mut fed = running;
-    let mut i = 0;
-    while i < bytes.len() {
-        let end = i + least(most, bytes.len() - i);
-        fed = feed_block(fed, &bytes[i..end]);
-        i = end;
+    for block in bytes.chunks(most) {
+        fed = feed_block(fed, block);
     }
     fed
 }
@@ -93,8 +83,7 @@ fn feed_block(running: Record, bytes: &[u8]) -> Record
     let mut xs = [0u16; BLOCK];
     let mut ys = [0u16; BLOCK];
     take_apart(k, m, bytes, &mut xs, &mut ys);
-    let fed = feed(running, &xs[..m * k], &ys[..m * k]);
-    fed.running
+    feed(running, &xs[..m * k], &ys[..m * k]).running
 }
 
 // 4k
@@ -128,12 +117,4 @@ fn whole_bytes(k: u64, bytes: usize) -> usize
 {
     let pair = pair_bytes(k) as usize;
     bytes / pair * pair
-}
-
-// How many bytes are left after those: less than a pair.
-fn rest_size(bytes: usize, whole: usize) -> usize
-    requires { whole ≤ bytes }
-    ensures { result ≡ bytes - whole }
-{
-    bytes - whole
 }

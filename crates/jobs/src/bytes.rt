@@ -1,9 +1,9 @@
 // Bytes: numbers in them, bytes put one after the other, and pairs taken apart.
-ghost use Rattle.std.specs.Prelude.{◌≡◌, ◌++◌, ◌+◌, ◌*◌, ◌/◌, ◌≤◌, ◌<◌, min, length};
+ghost use Rattle.std.specs.Prelude.{◌≡◌, ◌++◌, ◌+◌, ◌/◌, ◌≤◌, ◌<◌, length};
 ghost use Rattle.polynomials.specs.Indices.{upto};
 ghost use Rattle.polynomials.specs.Lists.{coefficient};
 ghost use Rattle.layout.specs.Numbers.{number_at};
-ghost use Rattle.settings.specs.Coefficients.{first_bad, NoneAbove};
+ghost use Rattle.settings.specs.Coefficients.{FindsBad, NoneAbove};
 ghost use Rattle.jobs.specs.Jobs.{coefficients_in};
 ghost use Rattle.jobs.specs.States.{held_bytes};
 ghost use Rattle.jobs.specs.Apart.{Raised, block_size, Copying, Copied, Parting, TakenApart};
@@ -13,27 +13,12 @@ use crate::state::HELD;
 // How many coefficients of each side are taken apart at a time: 256 pairs of the longest polynomials, and more of shorter ones.
 pub const BLOCK: usize = 2048;
 
-pub fn wide_byte(x: u8) -> u64
-    ensures { result ≡ x }
-{
-    x as u64
-}
-
-pub fn least(a: usize, b: usize) -> usize
-    ensures { result ≡ min a b }
-{
-    if a < b {
-        return a;
-    }
-    b
-}
-
 // The number in the byte at place i.
 pub fn one(bytes: &[u8], i: usize) -> u64
     requires { i < length bytes.now }
     ensures { result ≡ number_at bytes.now i 1 }
 {
-    wide_byte(bytes[i])
+    u64::from(bytes[i])
 }
 
 // The number in the four bytes from place i on, big-endian.
@@ -41,13 +26,7 @@ pub fn four(bytes: &[u8], i: usize) -> u64
     requires { i + 4 ≤ length bytes.now }
     ensures { result ≡ number_at bytes.now i 4 }
 {
-    highest_first(bytes[i], bytes[i + 1], bytes[i + 2], bytes[i + 3])
-}
-
-fn highest_first(a: u8, b: u8, c: u8, d: u8) -> u64
-    ensures { result ≡ ((a * 256 + b) * 256 + c) * 256 + d }
-{
-    ((wide_byte(a) * 256 + wide_byte(b)) * 256 + wide_byte(c)) * 256 + wide_byte(d)
+    u64::from(u32::from_be_bytes([bytes[i], bytes[i + 1], bytes[i + 2], bytes[i + 3]]))
 }
 
 // Coefficient i.
@@ -55,18 +34,18 @@ fn coefficient_at(bytes: &[u8], i: usize) -> u16
     requires { i < length bytes.now / 2 }
     ensures { result ≡ coefficient (coefficients_in bytes.now) i }
 {
-    (wide_byte(bytes[2 * i]) * 256 + wide_byte(bytes[2 * i + 1])) as u16
+    u16::from_be_bytes([bytes[2 * i], bytes[2 * i + 1]])
 }
 
-// The index of the first coefficient that is p or more, in input order, and their number where there is none. It is searched for only where
-// there is one: finding the largest takes several coefficients at once.
-pub fn first_bad(p: u64, bytes: &[u8]) -> usize
-    ensures { result ≡ first_bad p (coefficients_in bytes.now) }
+// The index of the first coefficient that is p or more, in input order. It is searched for only where there is one: finding the largest takes several
+// coefficients at once.
+pub fn first_bad(p: u64, bytes: &[u8]) -> Option<usize>
+    ensures { FindsBad p (coefficients_in bytes.now) result }
 {
-    if p <= largest(bytes) as u64 {
-        return search(p, bytes);
+    if u64::from(largest(bytes)) < p {
+        return None;
     }
-    bytes.len() / 2
+    search(p, bytes)
 }
 
 // A bound of all coefficients: the largest. Sixteen are compared at a time, each with one of sixteen bounds, as the compiler takes these at once.
@@ -74,16 +53,14 @@ fn largest(bytes: &[u8]) -> u16
     ensures { NoneAbove result (coefficients_in bytes.now) }
 {
     let end = bytes.len() / 2;
+    let blocks = end / 16;
     let mut bounds = [0u16; 16];
-    let mut i = 0;
-    while i + 16 <= end {
-        raise(bytes, i, &mut bounds);
-        i += 16;
+    for block in 0..blocks {
+        raise(bytes, 16 * block, &mut bounds);
     }
     let mut most = top(bounds);
-    while i < end {
-        most = larger(most, coefficient_at(bytes, i));
-        i += 1;
+    for i in 16 * blocks..end {
+        most = most.max(coefficient_at(bytes, i));
     }
     most
 }
@@ -93,10 +70,8 @@ fn raise(bytes: &[u8], i: usize, bounds: &mut [u16])
     requires { (i + 16 ≤ length bytes.now / 2) × (length bounds.old ≡ 16) }
     ensures { Raised (coefficients_in bytes.now) i 16 bounds.old bounds.new }
 {
-    let mut j = 0;
-    while j < 16 {
-        bounds[j] = larger(bounds[j], coefficient_at(bytes, i + j));
-        j += 1;
+    for j in 0..16 {
+        bounds[j] = bounds[j].max(coefficient_at(bytes, i + j));
     }
 }
 
@@ -104,32 +79,22 @@ fn raise(bytes: &[u8], i: usize, bounds: &mut [u16])
 fn top(bounds: [u16; 16]) -> u16
     ensures { NoneAbove result bounds }
 {
-    let mut most = 0u16;
-    let mut j = 0;
-    while j < 16 {
-        most = larger(most, bounds[j]);
-        j += 1;
+    let mut most = 0;
+    for bound in bounds {
+        most = most.max(bound);
     }
     most
 }
 
-fn larger(x: u16, y: u16) -> u16
-    ensures { (x ≤ result) × (y ≤ result) }
+fn search(p: u64, bytes: &[u8]) -> Option<usize>
+    ensures { FindsBad p (coefficients_in bytes.now) result }
 {
-    if x < y { y } else { x }
-}
-
-fn search(p: u64, bytes: &[u8]) -> usize
-    ensures { result ≡ first_bad p (coefficients_in bytes.now) }
-{
-    let mut i = 0;
-    while i < bytes.len() / 2 {
-        if p <= coefficient_at(bytes, i) as u64 {
-            return i;
+    for i in 0..bytes.len() / 2 {
+        if p <= u64::from(coefficient_at(bytes, i)) {
+            return Some(i);
         }
-        i += 1;
     }
-    i
+    None
 }
 
 // The k coefficients from index i on, put from place j on.
@@ -137,15 +102,13 @@ fn copy(bytes: &[u8], i: usize, out: &mut [u16], j: usize, k: usize)
     requires { Copying bytes.now i j k × (length out.old ≡ block_size) }
     ensures { Copied (coefficients_in bytes.now) i j k out.old out.new }
 {
-    let mut r = 0;
-    while r < k {
+    for r in 0..k {
         out[j + r] = coefficient_at(bytes, i + r);
-        r += 1;
     }
 }
 
-// The first m pairs, taken apart: their first polynomials into xs, their second into ys. Where k is a number that is known, the copying is
-// written out.
+// The first m pairs, taken apart: their first polynomials into xs, their second into ys. Each k has its own call: where k is a number that is known,
+// the copying is written out, which is faster.
 pub fn take_apart(k: usize, m: usize, bytes: &[u8], xs: &mut [u16], ys: &mut [u16])
     requires { Parting k m bytes.now × (length xs.old ≡ block_size) × (length ys.old ≡ block_size) }
     ensures { TakenApart k m (coefficients_in bytes.now) xs.new ys.new }
@@ -167,11 +130,9 @@ fn apart(k: usize, m: usize, bytes: &[u8], xs: &mut [u16], ys: &mut [u16])
     requires { Parting k m bytes.now × (length xs.old ≡ block_size) × (length ys.old ≡ block_size) }
     ensures { TakenApart k m (coefficients_in bytes.now) xs.new ys.new }
 {
-    let mut r = 0;
-    while r < m {
+    for r in 0..m {
         copy(bytes, 2 * r * k, xs, r * k, k);
         copy(bytes, (2 * r + 1) * k, ys, r * k, k);
-        r += 1;
     }
 }
 
@@ -181,15 +142,8 @@ pub fn joined(first: &[u8], second: &[u8]) -> [u8; HELD]
     ensures { result ≡ upto held_bytes (coefficient (first.now ++ second.now)) }
 {
     let mut held = [0u8; HELD];
-    let mut i = 0;
-    while i < first.len() {
-        held[i] = first[i];
-        i += 1;
-    }
-    let mut j = 0;
-    while j < second.len() {
-        held[i + j] = second[j];
-        j += 1;
-    }
+    let end = first.len() + second.len();
+    held[..first.len()].copy_from_slice(first);
+    held[first.len()..end].copy_from_slice(second);
     held
 }

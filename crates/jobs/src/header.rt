@@ -1,19 +1,18 @@
 // The header: its bytes are held until it is complete, and then its checks are made.
-ghost use Rattle.std.specs.Prelude.{◌≡◌, ◌++◌, ◌<◌, length};
+ghost use Rattle.std.specs.Prelude.{◌≡◌, ◌++◌, ◌<◌};
 ghost use Rattle.settings.specs.Answers.{fine};
-ghost use Rattle.settings.specs.Settings.{checked_says};
+ghost use Rattle.settings.specs.Refusals.{number_of, place_of, says};
 ghost use Rattle.jobs.specs.Jobs.{header_bytes, setting_in, declared_pairs, header_checks};
 ghost use Rattle.jobs.specs.States.{held_in, header_after, settled};
 ghost use Rattle.jobs.specs.States.{blank as States·blank};
 
 use crate::adding::{add_bytes, pair_bytes};
-use crate::bytes::{four, joined, least, one};
+use crate::bytes::{four, joined, one};
 use crate::state::{HELD, Stage, State};
 use packed::running::{Record, fresh};
 use settings::limits::MOST_PAIRS;
-use settings::refusals;
 use settings::refusals::Refusal;
-use settings::setting::{Checked, Setting, check};
+use settings::setting::{Setting, check};
 
 pub const HEADER_SIZE: usize = 15;
 
@@ -26,7 +25,7 @@ pub fn take_header(state: State, piece: &[u8]) -> State
 {
     let size = state.size;
     let held = state.held;
-    let end = least(HEADER_SIZE - size, piece.len());
+    let end = (HEADER_SIZE - size).min(piece.len());
     let header = joined(&held[..size], &piece[..end]);
     if size + end < HEADER_SIZE {
         return State {
@@ -37,49 +36,48 @@ pub fn take_header(state: State, piece: &[u8]) -> State
             running: blank(),
         };
     }
-    open(&header[..HEADER_SIZE], &piece[end..])
+    let mut complete = [0u8; HEADER_SIZE];
+    complete.copy_from_slice(&header[..HEADER_SIZE]);
+    open(&complete, &piece[end..])
 }
 
 // The header is complete.
-fn open(header: &[u8], rest: &[u8]) -> State
-    requires { length header.now ≡ header_bytes }
+fn open(header: &[u8; HEADER_SIZE], rest: &[u8]) -> State
     ensures { result ≡ header_after (header.now ++ rest.now) }
 {
-    if let Checked::Refused(r) = check_header(header) {
-        return refused(r);
+    match check_header(header) {
+        Ok(()) => add_bytes(
+            fresh(setting_in(header)).running,
+            declared_pairs(header),
+            rest,
+        ),
+        Err(why) => refused(why),
     }
-    let begun = fresh(setting_in(header));
-    let running = begun.running;
-    add_bytes(running, declared_pairs(header), rest)
 }
 
 // 17, 1 to 6, 17, 13.
-fn check_header(header: &[u8]) -> Checked
-    requires { length header.now ≡ header_bytes }
-    ensures { checked_says result ≡ header_checks header.now }
+fn check_header(header: &[u8; HEADER_SIZE]) -> Result<(), Refusal>
+    ensures { says result ≡ header_checks header.now }
 {
     if one(header, 4) != 1 {
-        return Checked::Refused(refusals::JOB);
+        return Err(Refusal::Job);
     }
     let length = four(header, 0);
     if length < COUNTED {
-        return Checked::Refused(refusals::JOB);
+        return Err(Refusal::Job);
     }
     let s = setting_in(header);
-    if let Checked::Refused(r) = check(s) {
-        return Checked::Refused(r);
-    }
+    check(s)?;
     if (length - COUNTED) % pair_bytes(s.k) != 0 {
-        return Checked::Refused(refusals::JOB);
+        return Err(Refusal::Job);
     }
     if MOST_PAIRS < (length - COUNTED) / pair_bytes(s.k) {
-        return Checked::Refused(refusals::FULL);
+        return Err(Refusal::Full);
     }
-    Checked::Accepted
+    Ok(())
 }
 
-fn setting_in(header: &[u8]) -> Setting
-    requires { length header.now ≡ header_bytes }
+fn setting_in(header: &[u8; HEADER_SIZE]) -> Setting
     ensures { result ≡ setting_in header.now }
 {
     Setting {
@@ -90,8 +88,8 @@ fn setting_in(header: &[u8]) -> Setting
     }
 }
 
-fn declared_pairs(header: &[u8]) -> u64
-    requires { (length header.now ≡ header_bytes) × (header_checks header.now ≡ fine) }
+fn declared_pairs(header: &[u8; HEADER_SIZE]) -> u64
+    requires { header_checks header.now ≡ fine }
     ensures { result ≡ declared_pairs header.now }
 {
     (four(header, 0) - COUNTED) / pair_bytes(one(header, 9))
@@ -99,10 +97,10 @@ fn declared_pairs(header: &[u8]) -> u64
 
 // A refusal that no further byte can change.
 pub fn refused(why: Refusal) -> State
-    ensures { result ≡ settled why.number why.place }
+    ensures { result ≡ settled (number_of why) (place_of why) }
 {
     State {
-        stage: Stage::Refused(why),
+        stage: Stage::Refused(why.into()),
         held: [0u8; HELD],
         size: 0,
         pairs: 0,
@@ -114,11 +112,11 @@ pub fn refused(why: Refusal) -> State
 pub fn blank() -> Record
     ensures { result ≡ States·blank }
 {
-    let begun = fresh(Setting {
+    let none = Setting {
         p: 0,
         k: 0,
         t: 0,
         n: 0,
-    });
-    begun.running
+    };
+    fresh(none).running
 }

@@ -6,9 +6,7 @@ use crate::coherent::state_cause;
 use crate::header::{blank, take_header};
 use crate::line::put_line;
 use packed::running::Record;
-use settings::answers::Wrote;
-use settings::refusals;
-use settings::refusals::Refusal;
+use settings::refusals::{Numbered, Refusal};
 use texts::putting::put;
 
 // A buffer of so many bytes has room for every line.
@@ -23,8 +21,8 @@ pub enum Stage {
     Header,
     // Pairs are added up.
     Pairs,
-    // No further byte can change the answer.
-    Refused(Refusal),
+    // No further byte can change the answer: a refusal in numbers, so that a state which no bytes give has any two, and is told.
+    Refused(Numbered),
 }
 
 // The bytes that wait for more, of the header or of the open pair, with zeros after them; how many pairs the header declares; and what was
@@ -51,28 +49,28 @@ pub fn start() -> State
 }
 
 // The next bytes of the job. A state that is not coherent is handed back as it was.
+#[tactic(auto, unfolding(crate::specs::States::state_cause, crate::specs::States::taken_by))]
 pub fn take(state: State, piece: &[u8]) -> State
     ensures { Takes state piece.now result }
 {
     if state_cause(state) {
         return state;
     }
-    let stage = state.stage;
-    match stage {
+    match state.stage {
         Stage::Header => take_header(state, piece),
         Stage::Pairs => take_pairs(state, piece),
-        Stage::Refused(r) => state,
+        Stage::Refused(_) => state,
     }
 }
 
 // The job has ended: its line, into a lent buffer: 10.
-pub fn finish(state: State, out: &mut [u8]) -> Wrote
+pub fn finish(state: State, out: &mut [u8]) -> Result<usize, Refusal>
     ensures { Finishes state out.old result out.new }
 {
     let mut line = [0u8; LONGEST_LINE];
     let size = put_line(state, &mut line);
     if out.len() < size {
-        return Wrote::Refused(refusals::SHORT);
+        return Err(Refusal::Short);
     }
-    Wrote::Count(put(&line[..size], out, 0))
+    Ok(put(&line[..size], out, 0))
 }

@@ -8,9 +8,9 @@
 --                                 check gives 19, 20, 21; and where it gives none of them, 8 is left
 --     Readable, read-passed       what holds where check refuses nothing
 --     read-pass                   and there it refuses nothing
+use Rattle.std.proofs.lemmas.Bool.{lt-leb}
 use Rattle.std.specs.Prelude.{ℕ, ◌+◌, ◌≤◌, ◌<◌, ◌≡◌, refl, Bool, true, false, List, [], ltb, length}
-use Rattle.std.proofs.Common.{◌∙◌, arith, pow_mono}
-use borrow.Author.Tests.{lt-ltb, le-ltb, le-leb, lt-leb, ltb-true, ltb-false, leb-false}
+use Rattle.std.proofs.Common.{◌∙◌, arith, pow_mono, lt-ltb, le-ltb, le-leb, ltb-true, ltb-false, leb-false}
 use Rattle.polynomials.specs.Lists.{Below}
 use Rattle.settings.specs.Answers.{refused, fine, refuse, ◌and_then◌}
 use Rattle.settings.specs.AnswerLaws.{passed, passed_first, passed-last}

@@ -7,24 +7,22 @@
 --     Halfway g old i a                 a is what old has become with i steps of the division to come
 --     division-begun, division-part, division-turn, division-ended
 --                                       the loop of the division: its start, what its step works on, its turn, its end
-use Prim.Native.Nat.{ℕ, zero, suc, ◌+◌, ◌-◌, ◌≤◌, ◌<◌}
-use Rattle.std.specs.Prelude.{◌≡◌, refl, List, [], ◌∷◌, ◌++◌, length, take, drop}
-use Rattle.std.proofs.Common.{sym, ◌∙◌, mul-zero, length-append, length-drop, length-take-le, get_or-take, get_or-drop}
+use Rattle.std.specs.Prelude.{◌≡◌, refl, List, [], ◌∷◌, ◌++◌, length, take, drop, Result, ℕ, zero, suc, ◌+◌, ◌-◌, ◌≤◌, ◌<◌}
+use Rattle.std.proofs.Common.{sym, ◌∙◌, mul-zero, length-append, length-drop, length-take-le, get_or-take, get_or-drop, arith}
 use Rattle.std.proofs.Math.Path.{ap}
 use Rattle.std.proofs.Math.Nat.{sub-zero}
 use Rattle.std.proofs.Math.Decide.{dec_lt}
-use native.Mathlib.Omega.{arith}
 use Rattle.std.proofs.Math.ListN.{get_or-append}
 use Rattle.polynomials.specs.Lists.{coefficient, part, product, residues, Below}
 use Rattle.polynomials.specs.ListLaws.{lists_agree, coefficient-past, coefficient-after, length_part, coefficient-part, part_below}
 use Rattle.divisions.specs.Divisions.{degree, term, less, cancelled, divided}
 use Rattle.divisions.specs.CongruenceLaws.{minus-zero, residues_below, length-less, coefficient-less, less-below, less-residues, term-product, term-product-low}
 use Rattle.packed.specs.Products.{Multiplies}
-use Rattle.settings.specs.declared.answers.Wrote.{Wrote}
 use Rattle.labels.specs.Labels.{modulus, most_checks}
 use Rattle.labels.specs.Working.{Divisor, Dividing}
 use Rattle.labels.specs.SettingLaws.{label_setting}
 use Rattle.labels.specs.MultiplyLaws.{product-words, multiplied}
+use Rattle.settings.specs.declared.refusals.Refusal.{Refusal}
 
 -- ---- a step
 
@@ -34,7 +32,7 @@ multiple_of g part = product (coefficient part (degree g) ∷ []) g
 abbrev pub worked : List ℕ → List ℕ → List ℕ
 worked g part = less modulus part (multiple_of g part)
 
-module _ (g part old after : List ℕ) (r : Wrote) (d : Divisor g part) (room : length g ≤ length old)
+module _ (g part old after : List ℕ) (r : Result ℕ Refusal) (d : Divisor g part) (room : length g ≤ length old)
     (m : Multiplies label_setting (coefficient part (degree g) ∷ []) g old r after) where
   multiple : take (length g) after ≡ residues modulus (multiple_of g part)
   multiple =

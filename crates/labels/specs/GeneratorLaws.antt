@@ -3,7 +3,7 @@
 --     GeneratorUpTo old j out           the generator stands in the first j places, and after them what stood there
 --     making-begun, making-size, making-below, making-turn, making-ended
 --                                       the loop that makes it: its start, its length, what it multiplies, its turn, its end
-use Rattle.std.specs.Prelude.{ℕ, suc, ◌+◌, ◌-◌, ◌≤◌, ◌<◌, ◌≡◌, refl, List, [], ◌∷◌, ◌++◌, length, take, drop, set}
+use Rattle.std.specs.Prelude.{ℕ, suc, ◌+◌, ◌-◌, ◌≤◌, ◌<◌, ◌≡◌, refl, List, [], ◌∷◌, ◌++◌, length, take, drop, set, Result}
 use Rattle.std.proofs.Common.{sym, ap, ◌∙◌, append-nil, arith, length-append, length-drop, drop_of_length-le, length-take-le, take_at, drop_at, drop-drop}
 use Rattle.polynomials.specs.Indices.{filled}
 use Rattle.polynomials.specs.Lists.{coefficient, Below}
@@ -13,15 +13,15 @@ use Rattle.divisions.specs.Values.{linear, with_roots}
 use Rattle.divisions.specs.CongruenceLaws.{minus-residue}
 use Rattle.divisions.specs.ValueLaws.{length-with_roots, roots-below, linear-below}
 use Rattle.packed.specs.Products.{Multiplies}
-use Rattle.settings.specs.declared.answers.Wrote.{Wrote}
 use Rattle.labels.specs.Labels.{modulus, most_checks, root, power, generator}
 use Rattle.labels.specs.Working.{times_root}
 use Rattle.labels.specs.SettingLaws.{label_setting}
 use Rattle.labels.specs.MultiplyLaws.{product-words, multiplied}
+use Rattle.settings.specs.declared.refusals.Refusal.{Refusal}
 
 -- ---- one root more
 
-module _ (j y x : ℕ) (out old after : List ℕ) (r : Wrote) (some : 0 < j) (within : j < length out) (few : length out ≤ most_checks + 1)
+module _ (j y x : ℕ) (out old after : List ℕ) (r : Result ℕ Refusal) (some : 0 < j) (within : j < length out) (few : length out ≤ most_checks + 1)
     (below : Below modulus (take j out)) (room : most_checks + 1 ≤ length old) (hy : y ≡ power j) (hx : x ≡ minus modulus 0 y)
     (m : Multiplies label_setting (take j out) (x ∷ 1 ∷ []) old r after) where
   factor : x ∷ 1 ∷ [] ≡ linear modulus (root j)

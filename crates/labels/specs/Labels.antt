@@ -14,19 +14,17 @@
 --     write_checks s content len             19, 20, 21, 8, 10: a list of len words is lent for the label
 --     read_checks s words                    19, 20, 21, 8
 --     write-gives, read-gives               the numbers that these can give, and no other
---     passing_says                           the answer that each case of Passing stands for; passing_of, the way back
 --     WritesLabel, ChecksLabel              the promises of write and check; write-once, check-once: each allows one result only
-use Rattle.std.specs.Prelude.{ℕ, ◌+◌, ◌^◌, ◌%◌, ◌≤◌, ◌≡◌, refl, Bool, true, false, not, List, [], ◌∷◌, ◌++◌, reverse, leb, ltb, length, replicate}
+use Rattle.std.specs.Prelude.{ℕ, ◌+◌, ◌^◌, ◌%◌, ◌≤◌, ◌≡◌, Bool, not, List, [], ◌∷◌, ◌++◌, reverse, leb, ltb, length, replicate, Result}
 use Rattle.polynomials.specs.Indices.{exceeds}
 use Rattle.divisions.specs.Divisions.{less, remainder}
 use Rattle.divisions.specs.Values.{value, with_roots}
-use Rattle.settings.specs.Answers.{Answer, answered, refused, Verdict, refuse, ◌and_then◌, Given}
-use Rattle.settings.specs.AnswerLaws.{once, given-check, given-then}
+use Rattle.settings.specs.Answers.{answered, Verdict, refuse, ◌and_then◌, Given}
+use Rattle.settings.specs.AnswerLaws.{given-check, given-then}
 use Rattle.settings.specs.SharedAnswers.{short_cause, Writes, writes-once}
 use Rattle.settings.specs.Coefficients.{coefficient_check, coefficient-gives}
-use Rattle.settings.specs.declared.answers.Wrote.{Wrote}
-use Rattle.labels.specs.declared.Passing.{Passing}
-use Rattle.labels.specs.declared.Passing.TheVariants.{Passes, Fails, Refused}
+use Rattle.settings.specs.Refusals.{says, says-once}
+use Rattle.settings.specs.declared.refusals.Refusal.{Refusal}
 
 abbrev pub modulus : ℕ
 modulus = 929
@@ -124,31 +122,16 @@ read-gives s words =
 
 -- ---- write
 
-abbrev pub WritesLabel : ℕ → List ℕ → List ℕ → Wrote → List ℕ → Type 0
+abbrev pub WritesLabel : ℕ → List ℕ → List ℕ → Result ℕ Refusal → List ℕ → Type 0
 WritesLabel s content old r after = Writes (write_checks s content (length old)) (label s content) old r after
 
-pub write-once : (s : ℕ) (content old : List ℕ) (a b : Wrote) (x y : List ℕ) → WritesLabel s content old a x → WritesLabel s content old b y → (a ≡ b) × (x ≡ y)
+pub write-once : (s : ℕ) (content old : List ℕ) (a b : Result ℕ Refusal) (x y : List ℕ) → WritesLabel s content old a x → WritesLabel s content old b y → (a ≡ b) × (x ≡ y)
 write-once s content old = writes-once (write_checks s content (length old)) (label s content) old
 
 -- ---- check
 
-abbrev pub passing_says : Passing → Answer Bool
-passing_says Passes = answered true
-passing_says Fails = answered false
-passing_says (Refused r) = refused r.number r.place
+abbrev pub ChecksLabel : ℕ → List ℕ → Result Bool Refusal → Type 0
+ChecksLabel s words r = says r ≡ (read_checks s words and_then answered (passes s words))
 
-abbrev pub passing_of : Answer Bool → Passing
-passing_of (answered true) = Passes
-passing_of (answered false) = Fails
-passing_of (refused number place) = Refused (record { number = number; place = place })
-
-passing-back : (r : Passing) → passing_of (passing_says r) ≡ r
-passing-back Passes = refl
-passing-back Fails = refl
-passing-back (Refused r) = refl
-
-abbrev pub ChecksLabel : ℕ → List ℕ → Passing → Type 0
-ChecksLabel s words r = passing_says r ≡ (read_checks s words and_then answered (passes s words))
-
-pub check-once : (s : ℕ) (words : List ℕ) (a b : Passing) → ChecksLabel s words a → ChecksLabel s words b → a ≡ b
-check-once s words a b = once passing_says passing_of passing-back a b (read_checks s words and_then answered (passes s words))
+pub check-once : (s : ℕ) (words : List ℕ) (a b : Result Bool Refusal) → ChecksLabel s words a → ChecksLabel s words b → a ≡ b
+check-once s words a b = says-once a b (read_checks s words and_then answered (passes s words))

@@ -1,9 +1,8 @@
 -- The library's product, of lists that are worked here: it refuses nothing. Assumes nothing.
 --     product-words     how many words a product has
 --     multiplied        what was asked for stands in the first places of its output
-use Rattle.std.specs.Prelude.{ℕ, zero, suc, ◌+◌, ◌-◌, ◌≤◌, ◌<◌, ◌≡◌, refl, List, ◌++◌, length, take, drop}
-use Rattle.std.proofs.Common.{sym, ◌∙◌, arith, take_at}
-use borrow.Author.Tests.{le-ltb}
+use Rattle.std.specs.Prelude.{ℕ, zero, suc, ◌+◌, ◌-◌, ◌≤◌, ◌<◌, ◌≡◌, refl, List, ◌++◌, length, take, drop, Result}
+use Rattle.std.proofs.Common.{sym, ◌∙◌, arith, take_at, le-ltb}
 use Rattle.polynomials.specs.Lists.{product_length, product, residues, Below}
 use Rattle.polynomials.specs.ListLaws.{length-residues, length-product}
 use Rattle.settings.specs.Answers.{fine}
@@ -11,9 +10,9 @@ use Rattle.settings.specs.Limits.{longest_factor}
 use Rattle.settings.specs.Coefficients.{coefficients-check}
 use Rattle.packed.specs.Products.{factor_checks, Multiplies}
 use Rattle.packed.specs.ProductLaws.{product-fine}
-use Rattle.settings.specs.declared.answers.Wrote.{Wrote}
 use Rattle.labels.specs.Labels.{modulus, most_checks}
 use Rattle.labels.specs.SettingLaws.{label_setting, label-setting-fine}
+use Rattle.settings.specs.declared.refusals.Refusal.{Refusal}
 
 product-size : (m n : ℕ) → 0 < m → 0 < n → product_length m n ≡ m + n - 1
 product-size zero n hm hn = absurd (omega arith)
@@ -35,7 +34,7 @@ module _ (a b : List ℕ) (a-below : Below modulus a) (b-below : Below modulus b
         le-ltb len (product_length (length a) (length b)) room,
       )
 
-  pub multiplied : (n : ℕ) (old after : List ℕ) (r : Wrote) → 0 < length a → 0 < length b → n ≡ length a + length b - 1 → n ≤ length old → Multiplies label_setting a b old r after
+  pub multiplied : (n : ℕ) (old after : List ℕ) (r : Result ℕ Refusal) → 0 < length a → 0 < length b → n ≡ length a + length b - 1 → n ≤ length old → Multiplies label_setting a b old r after
       → take n after ≡ residues modulus (product a b)
   multiplied n old after r some-a some-b size room m =
       let long : product_length (length a) (length b) ≤ length old = rw (product-size (length a) (length b) some-a some-b, ← size) room in

@@ -7,7 +7,7 @@
 --     exponent-next           the exponent of the next power, kept below 928
 --     exponent-power          a power of 3 by such an exponent is the power that is asked for
 --     value-closed            what closing gives, of a fresh record that a polynomial and powers of 3^j were fed to: its value at 3^j
-use Rattle.std.specs.Prelude.{ℕ, ◌+◌, ◌-◌, ◌*◌, ◌/◌, ◌%◌, ◌^◌, ◌≤◌, ◌<◌, ◌≡◌, refl, false, List, [], ◌∷◌, ◌++◌, T, length, take, drop}
+use Rattle.std.specs.Prelude.{ℕ, ◌+◌, ◌-◌, ◌*◌, ◌/◌, ◌%◌, ◌^◌, ◌≤◌, ◌<◌, ◌≡◌, refl, false, List, [], ◌∷◌, ◌++◌, T, length, take, drop, Result}
 use Rattle.std.proofs.Common.{sym, ap, ◌∙◌, append-nil, lt_of_le_of_lt, mod-lt, mul_comm, add-zero, zero-mul, div-one, arith, length-take-le, take_at}
 use Rattle.std.proofs.Math.Nat.{mod-mod, mod-one}
 use Rattle.polynomials.specs.Indices.{upto, sum_to}
@@ -26,18 +26,19 @@ use Rattle.divisions.specs.PowerLaws.{powers-at, power-again}
 use Rattle.settings.specs.Answers.{refuses}
 use Rattle.packed.specs.Taken.{taken-below}
 use Rattle.packed.specs.FedPairs.{PairsToFeed}
-use Rattle.packed.specs.Running.{counted_says, fresh_sum, record_of, Freshens, Feeds, Closes}
+use Rattle.packed.specs.Running.{fresh_sum, record_of, Freshens, Feeds, Closes}
 use Rattle.packed.specs.RunningChecks.{pairs-pass, feed-fine}
 use Rattle.packed.specs.Calls.{Call}
 use Rattle.packed.specs.DemandThree.{demand-3}
 use Rattle.packed.specs.Joining.{fresh-coherent}
 use Rattle.packed.specs.declared.running.Begun.{Begun}
 use Rattle.packed.specs.declared.running.Fed.{Fed}
-use Rattle.packed.specs.declared.running.Closed.{Closed}
 use Rattle.labels.specs.Labels.{modulus, most_checks, cycle, root, power, value_at}
 use Rattle.labels.specs.Working.{powers_of_three, Polynomial, power_at}
 use Rattle.labels.specs.WordLaws.{front_fits}
 use Rattle.labels.specs.SettingLaws.{label_setting, label-setting-fine}
+use Rattle.settings.specs.Refusals.{says}
+use Rattle.settings.specs.declared.refusals.Refusal.{Refusal}
 
 -- ---- the lent part of a list
 
@@ -125,13 +126,13 @@ module _ (a : List ℕ) (j : ℕ) where
       right_below = powers-below;
     }
 
-    pub value-closed : (ps : List ℕ) (begun : Begun) (fed : Fed) (closed : Closed) (after : List ℕ) → ps ≡ powers → Freshens label_setting begun → Feeds begun.running a ps fed
+    pub value-closed : (ps : List ℕ) (begun : Begun) (fed : Fed) (closed : Result ℕ Refusal) (after : List ℕ) → ps ≡ powers → Freshens label_setting begun → Feeds begun.running a ps fed
         → Closes fed.running (0 ∷ []) closed after → coefficient after 0 ≡ value_at a j
     value-closed ps begun fed closed after lent fresh feeds closes =
         let start = record_of label_setting fresh_sum in
         let fits : Feeds begun.running a powers fed = rw lent at feeds in
         let said = rw (fresh.1, feed-fine start a powers (pairs-pass start a powers feeding)) at fits.0 in
-        let took : refuses (counted_says fed.answer) ≡ false = rw said in
+        let took : refuses (says fed.answer) ≡ false = rw said in
         let call : Call = record { left = a; right = powers; gave = fed } in
         let all = demand-3 label_setting label-setting-fine begun fresh (call ∷ []) fed.running (fits, took, refl) in
         let left = (all.closing (0 ∷ []) after closed closes).1 in

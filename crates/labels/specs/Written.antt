@@ -4,7 +4,7 @@
 --     changed-read      a label that passes, with 1 to m words changed, m being the level's check words: check answers that it fails
 --     word-changed, words-exchanged
 --                       so of one word changed, and of two different ones exchanged
-use Rattle.std.specs.Prelude.{ℕ, ◌≤◌, ◌<◌, ◌≡◌, refl, Bool, true, false, List, length, set, take}
+use Rattle.std.specs.Prelude.{ℕ, ◌≤◌, ◌<◌, ◌≡◌, refl, Bool, true, false, List, length, set, take, Result, Ok}
 use Rattle.std.proofs.Common.{sym, ap, ◌∙◌, arith, length-set}
 use Rattle.std.proofs.Math.Seq.{take-append_seam}
 use Rattle.polynomials.specs.Lists.{coefficient, Below}
@@ -12,16 +12,14 @@ use Rattle.divisions.specs.Differences.{differences, exchanged}
 use Rattle.divisions.specs.DifferenceLaws.{differences-set, differences-exchanged, below_set, set_other, exchanged-other}
 use Rattle.settings.specs.Answers.{answered, fine}
 use Rattle.settings.specs.AnswerLaws.{passed_first, wrote-left}
-use Rattle.settings.specs.declared.answers.Wrote.TheVariants.{Count}
-use Rattle.labels.specs.declared.Passing.{Passing}
-use Rattle.labels.specs.declared.Passing.TheVariants.{Passes, Fails}
 use Rattle.labels.specs.Labels.{modulus, check_count, label, write_checks, read_checks, passes, WritesLabel, ChecksLabel, check-once}
 use Rattle.labels.specs.CheckLaws.{count_low, Writable, write-passed, Readable, read-passed, read-pass}
 use Rattle.labels.specs.Working.{check_words}
 use Rattle.labels.specs.LabelLaws.{label-words, label-length, label-below, written-passes}
 use Rattle.labels.specs.DistanceLaws.{apart}
+use Rattle.settings.specs.declared.refusals.Refusal.{Refusal}
 
-module _ (s : ℕ) (content old after : List ℕ) (n : ℕ) (written : WritesLabel s content old (Count n) after) where
+module _ (s : ℕ) (content old after : List ℕ) (n : ℕ) (written : WritesLabel s content old (Ok n) after) where
   writable : Writable s content (length old)
   writable = write-passed s content (length old) (passed_first (write_checks s content (length old)) (answered (length (label s content))) n (sym written.0)).0
 
@@ -39,12 +37,12 @@ module _ (s : ℕ) (content old after : List ℕ) (n : ℕ) (written : WritesLab
     below = label-below s content;
   }
 
-  pub written_read : (r : Passing) → ChecksLabel s (take n after) r → r ≡ Passes
+  pub written_read : (r : Result Bool Refusal) → ChecksLabel s (take n after) r → r ≡ Ok true
   written_read r h =
       let told : ChecksLabel s (label s content) r = rw is-label at h in
-      check-once s (label s content) r Passes told (rw (read-pass s (label s content) readable, written-passes s content))
+      check-once s (label s content) r (Ok true) told (rw (read-pass s (label s content) readable, written-passes s content))
 
-module _ (s : ℕ) (words : List ℕ) (passed : ChecksLabel s words Passes) where
+module _ (s : ℕ) (words : List ℕ) (passed : ChecksLabel s words (Ok true)) where
   both : (read_checks s words ≡ fine) × (answered (passes s words) ≡ answered true)
   both = passed_first (read_checks s words) (answered (passes s words)) true (sym passed)
 
@@ -62,16 +60,16 @@ module _ (s : ℕ) (words : List ℕ) (passed : ChecksLabel s words Passes) wher
         go true e = absurd (other (apart s words others good.below below (sym size) good.few passes-so e few))
         go false e = refl
 
-    pub changed-read : (r : Passing) → ChecksLabel s others r → r ≡ Fails
+    pub changed-read : (r : Result Bool Refusal) → ChecksLabel s others r → r ≡ Ok false
     changed-read r h =
         let readable : Readable s others = record { level = good.level; some = rw size good.some; few = rw size good.few; below = below } in
-        check-once s others r Fails h (rw (read-pass s others readable, fails-so))
+        check-once s others r (Ok false) h (rw (read-pass s others readable, fails-so))
 
-  pub word-changed : (i v : ℕ) → i < length words → v < modulus → (v ≡ coefficient words i → ⊥) → (r : Passing) → ChecksLabel s (set words i v) r → r ≡ Fails
+  pub word-changed : (i v : ℕ) → i < length words → v < modulus → (v ≡ coefficient words i → ⊥) → (r : Result Bool Refusal) → ChecksLabel s (set words i v) r → r ≡ Ok false
   word-changed i v inside low other =
       changed-read (set words i v) (length-set words i v) (below_set modulus words i v low good.below) (omega (arith, differences-set words i v, count_low s)) (set_other words i v inside other)
 
-  pub words-exchanged : (i k : ℕ) → i < length words → k < length words → (coefficient words i ≡ coefficient words k → ⊥) → (r : Passing) → ChecksLabel s (exchanged words i k) r → r ≡ Fails
+  pub words-exchanged : (i k : ℕ) → i < length words → k < length words → (coefficient words i ≡ coefficient words k → ⊥) → (r : Result Bool Refusal) → ChecksLabel s (exchanged words i k) r → r ≡ Ok false
   words-exchanged i k hi hk other =
       changed-read (exchanged words i k) (rw (length-set, length-set))
       (below_set modulus (set words i (coefficient words k)) k (coefficient words i) (good.below i) (below_set modulus words i (coefficient words k) (good.below k) good.below))

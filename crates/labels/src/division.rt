@@ -41,11 +41,8 @@ fn divide(g: &[u16], rest: &mut [u16])
     ensures { rest.new ≡ divided modulus g.now (length rest.old - degree g.now) rest.old }
 {
     let size = g.len();
-    let mut i = rest.len() + 1 - size;
-    while 0 < i {
-        i -= 1;
-        let end = i + size;
-        cancel(g, &mut rest[i..end]);
+    for i in (0..rest.len() + 1 - size).rev() {
+        cancel(g, &mut rest[i..i + size]);
     }
 }
 
@@ -57,6 +54,7 @@ fn cancel(g: &[u16], part: &mut [u16])
     let size = g.len();
     let highest = [part[size - 1]];
     let mut multiple = [0u16; MOST_CHECKS + 1];
-    product(LABELS, &highest, g, &mut multiple);
+    // The setting is accepted, the words are below the modulus, and there is room: no refusal can arise.
+    let _ = product(LABELS, &highest, g, &mut multiple);
     subtract(&multiple[..size], part);
 }

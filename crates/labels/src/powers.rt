@@ -60,25 +60,27 @@ const POWERS: [u16; CYCLE] = [
 ];
 
 // The table, for a caller that reads many of them: a constant is laid out anew wherever it is read.
-pub fn powers_of_three() -> [u16; CYCLE]
-    ensures { result ≡ powers_of_three }
-{
-    POWERS
+#[derive(Drop)]
+pub struct Powers {
+    pub table: [u16; CYCLE],
+    ghost all: { table ≡ powers_of_three },
+}
+
+pub fn powers_of_three() -> Powers {
+    Powers { table: POWERS }
 }
 
 // The powers of 3^j, from the one that is 1, out of the table.
-pub fn fill_powers(j: usize, table: &[u16], out: &mut [u16])
-    requires { (j ≤ most_checks) × (table.now ≡ powers_of_three) }
+pub fn fill_powers(j: usize, powers: &Powers, out: &mut [u16])
+    requires { j ≤ most_checks }
     ensures { out.new ≡ upto (length out.old) (power_at j) }
 {
     let mut e = 0;
-    let mut i = 0;
-    while i < out.len() {
-        out[i] = table[e];
-        e = e + j;
+    for i in 0..out.len() {
+        out[i] = powers.table[e];
+        e += j;
         if CYCLE <= e {
-            e = e - CYCLE;
+            e -= CYCLE;
         }
-        i += 1;
     }
 }

@@ -1,4 +1,4 @@
-// Lists of words, one after the other.
+// Lists of words, one after the other. That two lists are of one size is asked by each, since no type of two lent lists says it.
 ghost use Rattle.std.specs.Prelude.{◌≡◌, reverse, ◌≤◌, ◌<◌, length};
 ghost use Rattle.polynomials.specs.Indices.{filled};
 ghost use Rattle.polynomials.specs.Lists.{coefficient, Below};
@@ -14,22 +14,7 @@ pub fn take_away(x: u16, y: u16) -> u16
     requires { (x < modulus) × (y < modulus) }
     ensures { result ≡ minus modulus x y }
 {
-    if x < y {
-        return x + MODULUS - y;
-    }
-    x - y
-}
-
-// The same words, and those after them stay.
-pub fn copy(xs: &[u16], out: &mut [u16])
-    requires { length xs.now ≤ length out.old }
-    ensures { out.new ≡ filled (length xs.now) (coefficient xs.now) out.old }
-{
-    let mut i = 0;
-    while i < xs.len() {
-        out[i] = xs[i];
-        i += 1;
-    }
+    if x < y { x + MODULUS - y } else { x - y }
 }
 
 // The last word first: words that stand highest power first become a polynomial, and back.
@@ -37,12 +22,8 @@ pub fn turn(xs: &[u16], out: &mut [u16])
     requires { length out.old ≡ length xs.now }
     ensures { out.new ≡ reverse xs.now }
 {
-    let n = xs.len();
-    let mut i = 0;
-    while i < n {
-        out[i] = xs[n - 1 - i];
-        i += 1;
-    }
+    out.copy_from_slice(xs);
+    out.reverse();
 }
 
 // Zero less each word, modulo 929, the last word first.
@@ -51,10 +32,8 @@ pub fn turn_opposites(xs: &[u16], out: &mut [u16])
     ensures { out.new ≡ reverse (opposites xs.now) }
 {
     let n = xs.len();
-    let mut i = 0;
-    while i < n {
+    for i in 0..n {
         out[i] = take_away(0, xs[n - 1 - i]);
-        i += 1;
     }
 }
 
@@ -63,9 +42,7 @@ pub fn subtract(xs: &[u16], out: &mut [u16])
     requires { (length out.old ≡ length xs.now) × Below modulus out.old × Below modulus xs.now }
     ensures { out.new ≡ less modulus out.old xs.now }
 {
-    let mut i = 0;
-    while i < out.len() {
+    for i in 0..out.len() {
         out[i] = take_away(out[i], xs[i]);
-        i += 1;
     }
 }

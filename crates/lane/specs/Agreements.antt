@@ -6,9 +6,9 @@
 --                             a word that reduce answers holds the reduced word exactly, and its fields are the old ones modulo p
 --     reduce-agrees           it is the word that the library's reduce answers of the same number
 --     sum-reduced             sum, then reduce: the fields are the schoolbook sums modulo p
-use Rattle.std.specs.Prelude.{◌≡◌, ℕ, ◌%◌, ◌^◌, ◌<◌, ◌≤◌, false, not, List, nat_le, Float}
-use Rattle.std.proofs.Common.{sym, ap, ◌∙◌, arith, pow_pos}
-use borrow.Author.Tests.{lt-leb, leb-false}
+use Rattle.std.proofs.lemmas.Bool.{lt-leb}
+use Rattle.std.specs.Prelude.{◌≡◌, ℕ, ◌%◌, ◌^◌, ◌<◌, ◌≤◌, false, not, List, nat_le, Float, Result, Ok}
+use Rattle.std.proofs.Common.{sym, ap, ◌∙◌, arith, pow_pos, leb-false}
 use Rattle.polynomials.specs.Tests.{neither}
 use Rattle.polynomials.specs.Lists.{coefficient, sum_of_products}
 use Rattle.polynomials.specs.Places.{packed, field}
@@ -17,19 +17,17 @@ use Rattle.doubles.specs.Whole.{double, whole_part, is_whole, Held}
 use Rattle.doubles.specs.Exactly.{held, held_number, held_whole}
 use Rattle.settings.specs.Answers.{answered, fine, refuse}
 use Rattle.settings.specs.AnswerLaws.{passed, passed_first, passed-last}
-use Rattle.settings.specs.SharedAnswers.{packed-once}
 use Rattle.settings.specs.Settings.{setting_checks, base, places, span_of}
 use Rattle.words.specs.Places.{word_checks, reduced_word, reduce_answer, Reduces}
 use Rattle.packed.specs.Running.{fed_pairs}
 use Rattle.packed.specs.SumOfPairs.{batch-fields}
 use Rattle.settings.specs.declared.setting.Setting.{Setting}
-use Rattle.settings.specs.declared.answers.Packed.{Packed}
-use Rattle.settings.specs.declared.answers.Packed.TheVariants as in_packed
 use Rattle.lane.specs.Lanes.{lane_cause, make_checks, held_cause, improper_cause, lane_sum_checks, sum_word, reduce_checks, LaneSums, LaneReduces}
 use Rattle.lane.specs.LaneLaws.{held-checked, held-within, word_small}
 use Rattle.lane.specs.SumLaws.{Listed, listed, listed-operands, listed-few, word_fits, sum-small}
 use Rattle.lane.specs.declared.Lane.{Lane}
-use Rattle.lane.specs.declared.LaneAnswer.TheVariants as in_lane
+use Rattle.settings.specs.Refusals.{says-once}
+use Rattle.settings.specs.declared.refusals.Refusal.{Refusal}
 
 accepted : (l : Lane) → held_cause l ≡ false → setting_checks l.setting ≡ fine
 unfolding make_checks
@@ -41,7 +39,7 @@ pub record SumAnswer (s : Setting) (xs ys : List ℕ) (x : Float) : Type 0 where
   pub word : Held x (packed (base s) (sum_of_products (fed_pairs s xs ys)))
   pub fields : (j : ℕ) → field (base s) (whole_part x) j ≡ coefficient (sum_of_products (fed_pairs s xs ys)) j
 
-module _ (l : Lane) (xs ys : List ℕ) (x : Float) (promise : LaneSums l xs ys (in_lane.Word x)) where
+module _ (l : Lane) (xs ys : List ℕ) (x : Float) (promise : LaneSums l xs ys (Ok x)) where
   sum_told : (lane_sum_checks l xs ys ≡ fine) × (answered (double (sum_word l.setting xs ys)) ≡ answered x)
   sum_told = passed_first (lane_sum_checks l xs ys) (answered (double (sum_word l.setting xs ys))) x (sym promise)
 
@@ -69,7 +67,7 @@ module _ (l : Lane) (xs ys : List ℕ) (x : Float) (promise : LaneSums l xs ys (
 
 -- ---- reduce
 
-module _ (l : Lane) (x y : Float) (promise : LaneReduces l x (in_lane.Word y)) where
+module _ (l : Lane) (x y : Float) (promise : LaneReduces l x (Ok y)) where
   abbrev s : Setting
   s = l.setting
 
@@ -93,10 +91,10 @@ module _ (l : Lane) (x y : Float) (promise : LaneReduces l x (in_lane.Word y)) w
       let is : double (reduced_word s (whole_part x)) ≡ y = let e = reduce-told.1 in cc in
       rw is at (held (reduced_word s (whole_part x)) (omega (arith, short, word_small (held-within l checked.0) (whole_part x) below)))
 
-  pub reduce-agrees : (r : Packed) → Reduces s (whole_part x) r → r ≡ in_packed.Word (whole_part y)
+  pub reduce-agrees : (r : Result ℕ Refusal) → Reduces s (whole_part x) r → r ≡ Ok (whole_part y)
   unfolding reduce_answer word_checks
   reduce-agrees r h =
-      packed-once r (in_packed.Word (whole_part y)) (reduce_answer s (whole_part x)) h
+      says-once r (Ok (whole_part y)) (reduce_answer s (whole_part x)) h
       (rw (accepted l checked.0, lt-leb (2 ^ span_of s) (whole_part x) below) (ap (λ (n : ℕ). answered n) (held_number reduced-holds)))
 
   pub reduce-fields : (j : ℕ) → j < places s → field (base s) (whole_part y) j ≡ field (base s) (whole_part x) j % s.p
@@ -104,6 +102,6 @@ module _ (l : Lane) (x y : Float) (promise : LaneReduces l x (in_lane.Word y)) w
 
 -- ---- both
 
-pub sum-reduced : (l : Lane) (xs ys : List ℕ) (x y : Float) → LaneSums l xs ys (in_lane.Word x) → LaneReduces l x (in_lane.Word y)
+pub sum-reduced : (l : Lane) (xs ys : List ℕ) (x y : Float) → LaneSums l xs ys (Ok x) → LaneReduces l x (Ok y)
     → (j : ℕ) → j < places l.setting → field (base l.setting) (whole_part y) j ≡ coefficient (sum_of_products (fed_pairs l.setting xs ys)) j % l.setting.p
 sum-reduced l xs ys x y a b j h = reduce-fields l x y b j h ∙ ap (λ (n : ℕ). n % l.setting.p) ((sum-schoolbook l xs ys x a).fields j)

@@ -9,7 +9,7 @@
 --                                    the numbers that sum and reduce can give for a record that is not 12
 --     make-answers, sum-answers, reduce-answers
 --                                    and then the promises leave one answer, which is no refusal
-use Rattle.std.specs.Prelude.{◌≡◌, ℕ, ◌/◌, ◌^◌, ◌<◌, false, not, T, ◌↔◌, List, [], ◌∷◌, length, pos, nat_le, refl, Float}
+use Rattle.std.specs.Prelude.{◌≡◌, ℕ, ◌/◌, ◌^◌, ◌<◌, false, not, T, ◌↔◌, List, [], ◌∷◌, length, pos, nat_le, refl, Float, Result, Ok}
 use Rattle.std.proofs.Common.{sym, arith, le-ltb, leb-false}
 use Rattle.std.specs.Float.{binary64}
 use Rattle.std.specs.Float.Ieee.{fits}
@@ -31,10 +31,7 @@ use Rattle.lane.specs.Lanes.{lane_bits, lane_cause, make_checks, lane_of, held_c
 use Rattle.lane.specs.LaneLaws.{LaneBounds, Doubles, held-within, held-is, word_small}
 use Rattle.lane.specs.SumLaws.{Listed, listed}
 use Rattle.lane.specs.declared.Lane.{Lane}
-use Rattle.lane.specs.declared.Made.{Made}
-use Rattle.lane.specs.declared.Made.TheVariants as in_made
-use Rattle.lane.specs.declared.LaneAnswer.{LaneAnswer}
-use Rattle.lane.specs.declared.LaneAnswer.TheVariants as in_lane
+use Rattle.settings.specs.declared.refusals.Refusal.{Refusal}
 
 -- ---- make
 
@@ -46,10 +43,10 @@ lane-exactly s = (
   λ h. rw ((rows-exactly s).1 h.0, lt-leb lane_bits (span_of s) h.1),
 )
 
-pub make-answers : (s : Setting) (r : Made) → Rows s → span_of s < lane_bits → Makes s r → r ≡ in_made.Lane (lane_of s)
-make-answers s r rows short promise = make-once s r (in_made.Lane (lane_of s)) promise (rw ((lane-exactly s).1 (rows, short)))
+pub make-answers : (s : Setting) (r : Result Lane Refusal) → Rows s → span_of s < lane_bits → Makes s r → r ≡ Ok (lane_of s)
+make-answers s r rows short promise = make-once s r (Ok (lane_of s)) promise (rw ((lane-exactly s).1 (rows, short)))
 
-pub made_held : (s : Setting) (l : Lane) → Makes s (in_made.Lane l) → held_cause l ≡ false
+pub made_held : (s : Setting) (l : Lane) → Makes s (Ok l) → held_cause l ≡ false
 made_held s l promise =
     let a = passed_first (make_checks s) (answered (lane_of s)) l (sym promise) in
     let is : lane_of s ≡ l = let e = a.1 in cc in
@@ -79,8 +76,8 @@ held-sum-gives l xs ys held =
     (given-then (given-check (pairs_cause l.setting.k (length xs) (length ys)) 9 0)
     (given-then (given-check (lane_full_cause l.setting.n (length xs / l.setting.k)) 13 0) (coefficients-gives l.setting.p xs ys)))
 
-pub sum-answers : (l : Lane) (xs ys : List ℕ) (r : LaneAnswer) → held_cause l ≡ false → Listed l.setting xs ys → LaneSums l xs ys r → r ≡ in_lane.Word (double (sum_word l.setting xs ys))
-sum-answers l xs ys r held lists promise = sum-once l xs ys r (in_lane.Word (double (sum_word l.setting xs ys))) promise (rw ((sum-exactly l xs ys).1 (held, lists)))
+pub sum-answers : (l : Lane) (xs ys : List ℕ) (r : Result Float Refusal) → held_cause l ≡ false → Listed l.setting xs ys → LaneSums l xs ys r → r ≡ Ok (double (sum_word l.setting xs ys))
+sum-answers l xs ys r held lists promise = sum-once l xs ys r (Ok (double (sum_word l.setting xs ys))) promise (rw ((sum-exactly l xs ys).1 (held, lists)))
 
 -- ---- reduce
 
@@ -114,6 +111,6 @@ module _ (l : Lane) (x : Float) (f : T (fits binary64 x)) where
     λ h. rw (h.0, (improper-exactly l.setting (held-within l h.0) x f).1 h.1),
   )
 
-  pub reduce-answers : (r : LaneAnswer) → held_cause l ≡ false → ProperWord l.setting x → LaneReduces l x r → r ≡ in_lane.Word (double (reduced_word l.setting (whole_part x)))
+  pub reduce-answers : (r : Result Float Refusal) → held_cause l ≡ false → ProperWord l.setting x → LaneReduces l x r → r ≡ Ok (double (reduced_word l.setting (whole_part x)))
   reduce-answers r held proper promise =
-      reduce-once l x r (in_lane.Word (double (reduced_word l.setting (whole_part x)))) promise (rw (reduce-exactly.1 (held, proper)))
+      reduce-once l x r (Ok (double (reduced_word l.setting (whole_part x)))) promise (rw (reduce-exactly.1 (held, proper)))

@@ -2,6 +2,7 @@
 --     lane_cause s                  16 Lane: (2k-1) t >= 53, condition (2) of document 003 with a double's 53 bits
 --     make_checks s                 the setting's checks, then 16
 --     lane_of s                     the record that make makes: p and q, and what the division 1.0 / p gives
+--     doubles_differ l m             one of the three doubles of two records differs in any bit
 --     other_doubles l               one of a record's doubles differs in any bit from what make would hold
 --     held_cause l                  12 Record: a record whose setting is refused or meets 16, or whose doubles are others
 --     lane_full_cause n pairs        13 Full: more than n pairs
@@ -11,27 +12,24 @@
 --     reduce_checks l x             12, 11
 --     make-gives, lane-sum-gives, lane-reduce-gives
 --                                  the numbers that each of these lists of checks can give, and no other
---     made_says, lane_says           what each case of an answer stands for; made_of, lane_answer_of, the way back
 --     Makes s r, LaneSums l xs ys r, LaneReduces l x r
 --                                  the promises of make, sum and reduce
 --     make-once, sum-once, reduce-once
 --                                  each allows one answer only; two doubles are equal where they are the same bits, as same-bits of `doubles` says
-use Rattle.std.specs.Prelude.{◌≡◌, ℕ, ◌/◌, ◌^◌, Bool, not, ◌||◌, List, [], ◌∷◌, ◌++◌, length, nat_le, nat_lt, refl, Float}
+use Rattle.std.specs.Prelude.{◌≡◌, ℕ, ◌/◌, ◌^◌, Bool, not, ◌||◌, List, [], ◌∷◌, ◌++◌, length, nat_le, nat_lt, Float, Result}
 use Rattle.polynomials.specs.Lists.{sum_of_products}
 use Rattle.polynomials.specs.Places.{packed}
 use Rattle.doubles.specs.Whole.{double, whole_part, is_whole, inverse, differs_in_bits}
-use Rattle.settings.specs.Answers.{Answer, answered, refused, Verdict, refuse, refuses, ◌and_then◌, Given}
-use Rattle.settings.specs.AnswerLaws.{once, given-check, given-then}
+use Rattle.settings.specs.Answers.{answered, Verdict, refuse, refuses, ◌and_then◌, Given}
+use Rattle.settings.specs.AnswerLaws.{given-check, given-then}
 use Rattle.settings.specs.Settings.{setting_checks, setting_numbers, setting-gives, base, span_of}
 use Rattle.settings.specs.Coefficients.{coefficients_check, coefficients-gives}
 use Rattle.words.specs.Places.{reduced_word}
 use Rattle.packed.specs.Running.{fed_pairs, pairs_cause}
 use Rattle.settings.specs.declared.setting.Setting.{Setting}
 use Rattle.lane.specs.declared.Lane.{Lane}
-use Rattle.lane.specs.declared.Made.{Made}
-use Rattle.lane.specs.declared.Made.TheVariants as in_made
-use Rattle.lane.specs.declared.LaneAnswer.{LaneAnswer}
-use Rattle.lane.specs.declared.LaneAnswer.TheVariants as in_lane
+use Rattle.settings.specs.Refusals.{says, says-once}
+use Rattle.settings.specs.declared.refusals.Refusal.{Refusal}
 
 abbrev pub lane_bits : ℕ
 lane_bits = 53
@@ -51,30 +49,19 @@ make-gives s = given-then (setting-gives s) (given-check (lane_cause s) 16 0)
 abbrev pub lane_of : Setting → Lane
 lane_of s = record { setting = s; p = double s.p; q = double (base s); inverse = inverse s.p }
 
-abbrev pub made_says : Made → Answer Lane
-made_says (in_made.Lane l) = answered l
-made_says (in_made.Refused r) = refused r.number r.place
+abbrev pub Makes : Setting → Result Lane Refusal → Type 0
+Makes s r = says r ≡ (make_checks s and_then answered (lane_of s))
 
-abbrev pub made_of : Answer Lane → Made
-made_of (answered l) = in_made.Lane l
-made_of (refused number place) = in_made.Refused (record { number = number; place = place })
-
-made-back : (r : Made) → made_of (made_says r) ≡ r
-made-back (in_made.Lane l) = refl
-made-back (in_made.Refused r) = refl
-
-abbrev pub Makes : Setting → Made → Type 0
-Makes s r = made_says r ≡ (make_checks s and_then answered (lane_of s))
-
-pub make-once : (s : Setting) (a b : Made) → Makes s a → Makes s b → a ≡ b
-make-once s a b = once made_says made_of made-back a b (make_checks s and_then answered (lane_of s))
+pub make-once : (s : Setting) (a b : Result Lane Refusal) → Makes s a → Makes s b → a ≡ b
+make-once s a b = says-once a b (make_checks s and_then answered (lane_of s))
 
 -- ---- 12, 13, 11
 
+abbrev pub doubles_differ : Lane → Lane → Bool
+doubles_differ l made = differs_in_bits l.p made.p || (differs_in_bits l.q made.q || differs_in_bits l.inverse made.inverse)
+
 abbrev pub other_doubles : Lane → Bool
-other_doubles l =
-    let made : Lane = lane_of l.setting in
-    differs_in_bits l.p made.p || (differs_in_bits l.q made.q || differs_in_bits l.inverse made.inverse)
+other_doubles l = doubles_differ l (lane_of l.setting)
 
 unfoldable pub held_cause : Lane → Bool
 held_cause l = refuses (make_checks l.setting) || other_doubles l
@@ -104,23 +91,11 @@ lane-sum-gives l xs ys =
 abbrev pub sum_word : Setting → List ℕ → List ℕ → ℕ
 sum_word s xs ys = packed (base s) (sum_of_products (fed_pairs s xs ys))
 
-abbrev pub lane_says : LaneAnswer → Answer Float
-lane_says (in_lane.Word x) = answered x
-lane_says (in_lane.Refused r) = refused r.number r.place
+abbrev pub LaneSums : Lane → List ℕ → List ℕ → Result Float Refusal → Type 0
+LaneSums l xs ys r = says r ≡ (lane_sum_checks l xs ys and_then answered (double (sum_word l.setting xs ys)))
 
-abbrev pub lane_answer_of : Answer Float → LaneAnswer
-lane_answer_of (answered x) = in_lane.Word x
-lane_answer_of (refused number place) = in_lane.Refused (record { number = number; place = place })
-
-lane-back : (r : LaneAnswer) → lane_answer_of (lane_says r) ≡ r
-lane-back (in_lane.Word x) = refl
-lane-back (in_lane.Refused r) = refl
-
-abbrev pub LaneSums : Lane → List ℕ → List ℕ → LaneAnswer → Type 0
-LaneSums l xs ys r = lane_says r ≡ (lane_sum_checks l xs ys and_then answered (double (sum_word l.setting xs ys)))
-
-pub sum-once : (l : Lane) (xs ys : List ℕ) (a b : LaneAnswer) → LaneSums l xs ys a → LaneSums l xs ys b → a ≡ b
-sum-once l xs ys a b = once lane_says lane_answer_of lane-back a b (lane_sum_checks l xs ys and_then answered (double (sum_word l.setting xs ys)))
+pub sum-once : (l : Lane) (xs ys : List ℕ) (a b : Result Float Refusal) → LaneSums l xs ys a → LaneSums l xs ys b → a ≡ b
+sum-once l xs ys a b = says-once a b (lane_sum_checks l xs ys and_then answered (double (sum_word l.setting xs ys)))
 
 -- ---- reduce
 
@@ -131,8 +106,8 @@ pub lane-reduce-gives : (l : Lane) (x : Float) → Given (12 ∷ 11 ∷ []) (red
 unfolding reduce_checks
 lane-reduce-gives l x = given-then (given-check (held_cause l) 12 0) (given-check (improper_cause l.setting x) 11 0)
 
-abbrev pub LaneReduces : Lane → Float → LaneAnswer → Type 0
-LaneReduces l x r = lane_says r ≡ (reduce_checks l x and_then answered (double (reduced_word l.setting (whole_part x))))
+abbrev pub LaneReduces : Lane → Float → Result Float Refusal → Type 0
+LaneReduces l x r = says r ≡ (reduce_checks l x and_then answered (double (reduced_word l.setting (whole_part x))))
 
-pub reduce-once : (l : Lane) (x : Float) (a b : LaneAnswer) → LaneReduces l x a → LaneReduces l x b → a ≡ b
-reduce-once l x a b = once lane_says lane_answer_of lane-back a b (reduce_checks l x and_then answered (double (reduced_word l.setting (whole_part x))))
+pub reduce-once : (l : Lane) (x : Float) (a b : Result Float Refusal) → LaneReduces l x a → LaneReduces l x b → a ≡ b
+reduce-once l x a b = says-once a b (reduce_checks l x and_then answered (double (reduced_word l.setting (whole_part x))))

@@ -1,6 +1,7 @@
--- Document 01's "The double lane", in its order and words; then the laws. Each file opens with its notions.
+-- "The double lane", in its order and words; then the laws. Each file opens with its notions.
 pub mod Lanes
 pub mod LaneLaws
+pub mod Accepting
 pub mod ExactLaws
 pub mod SumLaws
 pub mod QuotientLaws

@@ -8,14 +8,15 @@ mod exact;
 mod lanes;
 mod quotients;
 mod residues;
+mod short;
 mod sums;
 
-use crate::lanes::{check_lane, held_cause, improper_cause, lane_of};
+use crate::lanes::{accept_lane, held_cause, improper_cause, lane_of};
 use crate::residues::reduce_word;
+use crate::short::ShortSetting;
 use crate::sums::{add_products, check_sum};
-use settings::refusals;
 use settings::refusals::Refusal;
-use settings::setting::{Checked, Setting};
+use settings::setting::Setting;
 
 // The setting, and beside it p, q and 1/p as doubles.
 #[derive(Clone, Copy)]
@@ -26,51 +27,35 @@ pub struct Lane {
     pub inverse: f64,
 }
 
-#[derive(Clone, Copy)]
-pub enum Made {
-    Lane(Lane),
-    Refused(Refusal),
-}
-
-// The answer of a call that works out a word, as a double.
-#[derive(Clone, Copy)]
-pub enum LaneAnswer {
-    Word(f64),
-    Refused(Refusal),
-}
-
 // The setting's checks, then 16.
-pub fn make(s: Setting) -> Made
+pub fn make(s: Setting) -> Result<Lane, Refusal>
     ensures { Makes s result }
 {
-    if let Checked::Refused(r) = check_lane(s) {
-        return Made::Refused(r);
-    }
-    let lane = lane_of(s);
-    Made::Lane(lane)
+    let s = accept_lane(s)?;
+    Ok(lane_of(s))
 }
 
 // Two flat lists of at most n pairs, k coefficients per polynomial: 12, 9, 13, 8. The answer is the sum of products, unreduced.
-pub fn sum(lane: Lane, xs: &[u16], ys: &[u16]) -> LaneAnswer
+pub fn sum(lane: Lane, xs: &[u16], ys: &[u16]) -> Result<f64, Refusal>
     ensures { LaneSums lane xs.now ys.now result }
 {
-    if let Checked::Refused(r) = check_sum(lane, xs, ys) {
-        return LaneAnswer::Refused(r);
-    }
-    let word = add_products(lane, xs, ys);
-    LaneAnswer::Word(word)
+    check_sum(lane, xs, ys)?;
+    Ok(add_products(lane, xs, ys))
 }
 
 // The word whose fields are the old ones modulo p: 12, 11.
-pub fn reduce(lane: Lane, word: f64) -> LaneAnswer
+#[tactic(auto, unfolding(crate::specs::Lanes::reduce_checks))]
+pub fn reduce(lane: Lane, word: f64) -> Result<f64, Refusal>
     ensures { LaneReduces lane word result }
 {
     if held_cause(lane) {
-        return LaneAnswer::Refused(refusals::RECORD);
+        return Err(Refusal::Record);
     }
-    if improper_cause(lane.setting, word) {
-        return LaneAnswer::Refused(refusals::WORD);
+    let s = ShortSetting {
+        setting: lane.setting,
+    };
+    if improper_cause(s, word) {
+        return Err(Refusal::Word(0));
     }
-    let reduced = reduce_word(lane, word);
-    LaneAnswer::Word(reduced)
+    Ok(reduce_word(lane, word))
 }

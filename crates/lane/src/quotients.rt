@@ -1,4 +1,4 @@
-// Quotients and remainders by p, from the held 1/p and without a division.
+// Quotients and remainders by p, from the held 1/p and without a division. What they ask is of a record and a double together, and no type holds the two.
 ghost use Rattle.std.specs.Prelude.{◌/◌, ◌%◌};
 ghost use Rattle.doubles.specs.Whole.{whole_part, Held, cut_product};
 ghost use Rattle.lane.specs.QuotientLaws.{DoubleToDivide};
@@ -15,10 +15,7 @@ pub fn quotient(lane: Lane, x: f64) -> f64
 {
     let guess = cut_product(lane, x);
     let rest = less(x, times(guess, lane.p));
-    if rest < lane.p {
-        return guess;
-    }
-    guess + 1.0
+    if rest < lane.p { guess } else { guess + 1.0 }
 }
 
 pub fn remainder(lane: Lane, x: f64) -> f64

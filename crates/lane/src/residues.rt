@@ -20,11 +20,9 @@ pub fn reduce_word(lane: Lane, x: f64) -> f64
     let s = lane.setting;
     let word = x as u64;
     let whole = quotient(lane, x) as u64;
-    let mut above = 0u64;
+    let mut above = 0;
     let mut w = 0.0;
-    let mut i = 2 * s.k - 1;
-    while 0 < i {
-        i -= 1;
+    for i in (0..2 * s.k - 1).rev() {
         let u = shifted_residue(s, i, word, whole);
         w = plus(times(w, lane.q), corrected(lane, u as f64, above as f64));
         above = u;
@@ -48,7 +46,8 @@ fn corrected(lane: Lane, u: f64, above: f64) -> f64
 {
     let taken = remainder(lane, times(lane.q, above));
     if u < taken {
-        return less(plus(u, lane.p), taken);
+        less(plus(u, lane.p), taken)
+    } else {
+        less(u, taken)
     }
-    less(u, taken)
 }

@@ -3,7 +3,7 @@
 ghost use Rattle.std.specs.Prelude.{◌≡◌, ◌<◌};
 ghost use Rattle.polynomials.specs.Places.{packed};
 ghost use Rattle.doubles.specs.Whole.{whole_part, Held};
-ghost use Rattle.settings.specs.Settings.{checked_says};
+ghost use Rattle.settings.specs.Refusals.{says};
 ghost use Rattle.packed.specs.Taken.{taken, taken_one};
 ghost use Rattle.lane.specs.Lanes.{lane_sum_checks, sum_word};
 ghost use Rattle.lane.specs.SumLaws.{Summing, PacksExactly};
@@ -12,25 +12,21 @@ use crate::Lane;
 use crate::exact::{plus, times};
 use crate::lanes::held_cause;
 use settings::coefficients::check_coefficients;
-use settings::refusals;
-use settings::setting::Checked;
+use settings::refusals::Refusal;
 
 // 12, 9, 13, 8.
-pub fn check_sum(lane: Lane, xs: &[u16], ys: &[u16]) -> Checked
-    ensures { checked_says result ≡ lane_sum_checks lane xs.now ys.now }
+pub fn check_sum(lane: Lane, xs: &[u16], ys: &[u16]) -> Result<(), Refusal>
+    ensures { says result ≡ lane_sum_checks lane xs.now ys.now }
 {
     if held_cause(lane) {
-        return Checked::Refused(refusals::RECORD);
+        return Err(Refusal::Record);
     }
     let s = lane.setting;
-    if xs.len() != ys.len() {
-        return Checked::Refused(refusals::SHAPE);
-    }
-    if xs.len() as u64 % s.k != 0 {
-        return Checked::Refused(refusals::SHAPE);
+    if xs.len() != ys.len() || xs.len() as u64 % s.k != 0 {
+        return Err(Refusal::Shape);
     }
     if s.n < xs.len() as u64 / s.k {
-        return Checked::Refused(refusals::FULL);
+        return Err(Refusal::Full);
     }
     check_coefficients(s.p, xs, ys)
 }
@@ -44,13 +40,11 @@ pub fn add_products(lane: Lane, xs: &[u16], ys: &[u16]) -> f64
     let size = lane.setting.k as usize;
     let pairs = xs.len() / size;
     let mut sum = 0.0;
-    let mut r = 0;
-    while r < pairs {
+    for r in 0..pairs {
         let at = r * size;
         let left = pack_double(p, lane.q, &xs[at..at + size]);
         let right = pack_double(p, lane.q, &ys[at..at + size]);
         sum = plus(sum, times(left, right));
-        r += 1;
     }
     sum
 }
@@ -61,10 +55,8 @@ fn pack_double(p: u64, q: f64, xs: &[u16]) -> f64
     ensures { Held result (packed (whole_part q) (taken p xs.now)) }
 {
     let mut w = 0.0;
-    let mut i = xs.len();
-    while 0 < i {
-        i -= 1;
-        w = plus(times(w, q), taken_one(p, xs[i]));
+    for x in xs.iter().rev() {
+        w = plus(times(w, q), taken_one(p, *x));
     }
     w
 }

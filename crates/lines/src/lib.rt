@@ -32,23 +32,12 @@ pub fn setting(rt: &impl Print, p: u64, k: u64, t: u64, n: u64)
     number(rt, n);
 }
 
-pub fn bytes(rt: &impl Print, xs: &[u8])
+// The elements of a list, of any type that 64 bits hold.
+pub fn numbers<T: Copy + Into<u64>>(rt: &impl Print, xs: &[T])
     ensures { PrintsList xs.now xs.now result }
 {
-    let mut i = 0;
-    while i < xs.len() {
-        number(rt, wide_byte(xs[i]));
-        i += 1;
-    }
-}
-
-pub fn coefficients(rt: &impl Print, xs: &[u16])
-    ensures { PrintsList xs.now xs.now result }
-{
-    let mut i = 0;
-    while i < xs.len() {
-        number(rt, wide(xs[i]));
-        i += 1;
+    for x in xs {
+        number(rt, (*x).into());
     }
 }
 
@@ -57,7 +46,7 @@ pub fn list(rt: &impl Print, xs: &[u16])
     ensures { PrintsList xs.now xs.now result }
 {
     if xs.len() <= 16 {
-        coefficients(rt, xs);
+        numbers(rt, xs);
         return;
     }
     number(rt, xs.len() as u64);
@@ -67,29 +56,9 @@ pub fn list(rt: &impl Print, xs: &[u16])
 
 // A number in which every coefficient counts with its place: times 257 and the next one added, again and again, modulo the prime 1,000,003.
 fn digest(xs: &[u16]) -> u64 {
-    let mut sum = 0u64;
-    let mut i = 0;
-    while i < xs.len() {
-        sum = (sum * 257 + wide(xs[i]) % 65536) % 1000003;
-        i += 1;
+    let mut sum = 0;
+    for x in xs {
+        sum = (sum * 257 + u64::from(*x)) % 1000003;
     }
     sum
-}
-
-pub fn words(rt: &impl Print, xs: &[u64])
-    ensures { PrintsList xs.now xs.now result }
-{
-    let mut i = 0;
-    while i < xs.len() {
-        number(rt, xs[i]);
-        i += 1;
-    }
-}
-
-fn wide_byte(x: u8) -> u64 {
-    x as u64
-}
-
-fn wide(x: u16) -> u64 {
-    x as u64
 }

@@ -6,7 +6,7 @@
 --     schoolbook s cs               the schoolbook sum of the pairs' products modulo p, its 2k-1 coefficients
 --     ClosesTo s cs old a after     what demand 3 says of closing: that sum, and pairs / n, rounded up, as the number of reductions; 10 alone can refuse
 --     sum_of s cs                    what demand 3 says of the record: residues of full batches, unreduced sum of the rest, number of pairs
-use Rattle.std.specs.Prelude.{ℕ, ◌%◌, ◌≡◌, false, List, [], ◌∷◌, ◌++◌, length}
+use Rattle.std.specs.Prelude.{ℕ, ◌%◌, ◌≡◌, false, List, [], ◌∷◌, ◌++◌, length, Result}
 use Rattle.polynomials.specs.Indices.{upto, rounded_up}
 use Rattle.polynomials.specs.Lists.{coefficient, Pair, sum_of_products}
 use Rattle.polynomials.specs.Places.{packed}
@@ -15,12 +15,13 @@ use Rattle.settings.specs.Limits.{residue_places}
 use Rattle.settings.specs.Answers.{answered, Verdict, refuse, refuses, ◌and_then◌, left_by}
 use Rattle.settings.specs.SharedAnswers.{short_cause}
 use Rattle.settings.specs.Settings.{base, places}
-use Rattle.packed.specs.Running.{counted_says, closed_says, Feeds}
+use Rattle.packed.specs.Running.{Feeds}
 use Rattle.settings.specs.declared.setting.Setting.{Setting}
 use Rattle.packed.specs.declared.running.Sum.{Sum}
 use Rattle.packed.specs.declared.running.Record.{Record}
+use Rattle.settings.specs.Refusals.{says}
+use Rattle.settings.specs.declared.refusals.Refusal.{Refusal}
 use Rattle.packed.specs.declared.running.Fed.{Fed}
-use Rattle.packed.specs.declared.running.Closed.{Closed}
 
 pub record Call : Type 0 where
   pub left : List ℕ
@@ -29,7 +30,7 @@ pub record Call : Type 0 where
 
 abbrev pub Calls : Record → List Call → Record → Type 0
 Calls r [] z = r ≡ z
-Calls r (c ∷ cs) z = Feeds r c.left c.right c.gave × (refuses (counted_says c.gave.answer) ≡ false) × Calls c.gave.running cs z
+Calls r (c ∷ cs) z = Feeds r c.left c.right c.gave × (refuses (says c.gave.answer) ≡ false) × Calls c.gave.running cs z
 
 abbrev pub Asked : Record → List Call → Record → Type 0
 Asked r [] z = r ≡ z
@@ -50,10 +51,10 @@ rights (c ∷ cs) = c.right ++ rights cs
 abbrev pub schoolbook : Setting → List Pair → List ℕ
 schoolbook s cs = upto (places s) (λ j. coefficient (sum_of_products cs) j % s.p)
 
-abbrev pub ClosesTo : Setting → List Pair → List ℕ → Closed → List ℕ → Type 0
+abbrev pub ClosesTo : Setting → List Pair → List ℕ → Result ℕ Refusal → List ℕ → Type 0
 ClosesTo s cs old a after =
     let short : Verdict = refuse (short_cause (places s) (length old)) 10 0 in
-    (closed_says a ≡ (short and_then answered (rounded_up (length cs) s.n))) × (after ≡ left_by short (schoolbook s cs) old)
+    (says a ≡ (short and_then answered (rounded_up (length cs) s.n))) × (after ≡ left_by short (schoolbook s cs) old)
 
 abbrev pub sum_of : Setting → List Pair → Sum
 sum_of s cs = record {

@@ -3,9 +3,9 @@
 --     demand-3                and that it holds, however the pairs are cut into calls
 --     open-word               the open word is the packed sum of the open batch, and its fields are the coefficients of that sum
 --     any_order               neither order nor cutting matters to closing
-use Rattle.std.specs.Prelude.{ℕ, ◌/◌, ◌%◌, ◌≡◌, length}
-use Rattle.std.proofs.Common.{sym, ap, ◌∙◌, arith}
-use mathlib.Core.List.{List, [], ◌∷◌, ◌++◌, append-nil, append_assoc, Perm}
+use Rattle.std.specs.Prelude.{ℕ, ◌/◌, ◌%◌, ◌≡◌, List, [], ◌∷◌, ◌++◌, length, Result}
+use Rattle.std.proofs.Common.{sym, ap, ◌∙◌, append-nil, append_assoc, arith}
+use mathlib.Core.List.{Perm}
 use Rattle.std.proofs.Math.Nat.{zero-div}
 use Rattle.polynomials.specs.Indices.{upto, rounded_up}
 use Rattle.polynomials.specs.IndexLaws.{upto-same}
@@ -15,10 +15,9 @@ use Rattle.polynomials.specs.Pairs.{open_batch}
 use Rattle.polynomials.specs.PairLaws.{pairs-join, sums-order, length-order}
 use Rattle.settings.specs.Answers.{answered, Verdict, fine, refuse, ◌and_then◌}
 use Rattle.settings.specs.SharedAnswers.{short_cause}
-use Rattle.settings.specs.AnswerLaws.{once}
 use Rattle.settings.specs.Settings.{setting_checks, base, places}
 use Rattle.packed.specs.Taken.{taken, taken-length}
-use Rattle.packed.specs.Running.{Coherent, closing_at, fed_pairs, close_checks, record_of, Freshens, closed_says, closed_of, closed-back, Closes}
+use Rattle.packed.specs.Running.{Coherent, closing_at, fed_pairs, close_checks, record_of, Freshens, Closes}
 use Rattle.packed.specs.Calls.{Call, Calls, lefts, rights, schoolbook, ClosesTo, sum_of}
 use Rattle.packed.specs.FedPairs.{fed_sum, fed-operands}
 use Rattle.packed.specs.RunningChecks.{Told, feed-told, close-pass}
@@ -27,13 +26,14 @@ use Rattle.packed.specs.SumOfPairs.{batch-fields, parts-operands, rest-few, clos
 use Rattle.settings.specs.declared.setting.Setting.{Setting}
 use Rattle.packed.specs.declared.running.Record.{Record}
 use Rattle.packed.specs.declared.running.Begun.{Begun}
-use Rattle.packed.specs.declared.running.Closed.{Closed}
+use Rattle.settings.specs.Refusals.{says-once}
+use Rattle.settings.specs.declared.refusals.Refusal.{Refusal}
 
 pub record Demand3 (s : Setting) (cs : List Pair) (z : Record) : Type 0 where
   -- the record: residues of the full batches, unreduced sum of the rest, number of pairs
   pub after : z ≡ record_of s (sum_of s cs)
   -- closing: the schoolbook sum modulo p, and as many reductions as there are batches
-  pub closing : (old new : List ℕ) (a : Closed) → Closes z old a new → ClosesTo s cs old a new
+  pub closing : (old new : List ℕ) (a : Result ℕ Refusal) → Closes z old a new → ClosesTo s cs old a new
 
 -- what holds of a record that calls have reached
 record Reached (s : Setting) (cs : List Pair) (z : Record) : Type 0 where
@@ -95,7 +95,7 @@ module _ (s : Setting) (ok : setting_checks s ≡ fine) where
     )
 
   pub any_order : (b d : Begun) → Freshens s b → Freshens s d → (calls others : List Call) (y z : Record) → Calls b.running calls y → Calls d.running others z
-      → Perm (fed_pairs s (lefts calls) (rights calls)) (fed_pairs s (lefts others) (rights others)) → (old v w : List ℕ) (x u : Closed) → Closes y old x v → Closes z old u w → (x ≡ u) × (v ≡ w)
+      → Perm (fed_pairs s (lefts calls) (rights calls)) (fed_pairs s (lefts others) (rights others)) → (old v w : List ℕ) (x u : Result ℕ Refusal) → Closes y old x v → Closes z old u w → (x ≡ u) × (v ≡ w)
   any_order b d hb hd calls others y z hy hz order old v w x u hx hu =
       let cs : List Pair = fed_pairs s (lefts calls) (rights calls) in
       let ds : List Pair = fed_pairs s (lefts others) (rights others) in
@@ -103,6 +103,6 @@ module _ (s : Setting) (ok : setting_checks s ≡ fine) where
       let second : ClosesTo s ds old u w = (demand-3 d hd others z hz).closing old w u hu in
       let sums : schoolbook s cs ≡ schoolbook s ds = upto-same (places s) (λ j. coefficient (sum_of_products cs) j % s.p) (λ j. coefficient (sum_of_products ds) j % s.p) (λ j l. rw (sums-order cs ds order j)) in
       let short : Verdict = refuse (short_cause (places s) (length old)) 10 0 in (
-        once closed_says closed_of closed-back x u (short and_then answered (rounded_up (length ds) s.n)) (rw (length-order cs ds order) at first.0) second.0,
+        says-once x u (short and_then answered (rounded_up (length ds) s.n)) (rw (length-order cs ds order) at first.0) second.0,
         first.1 ∙ rw sums (sym second.1),
       )

@@ -3,9 +3,8 @@
 --     largest-some         their word is not zero
 --     largest-fits         n products of two such words fit a word
 --     never-overflows      no batch of a product of two lists below p reaches 2^64
-use Prim.Native.Nat.{ℕ, zero, suc, ◌+◌, ◌-◌, ◌*◌, ◌^◌, ◌≤◌, ◌<◌, min, zero-le}
-use Rattle.std.specs.Prelude.{◌≡◌, false, List, length, replicate}
-use Rattle.std.proofs.Common.{◌∙◌, mul-le-mul_left, arith}
+use Rattle.std.specs.Prelude.{ℕ, zero, suc, ◌+◌, ◌-◌, ◌*◌, ◌^◌, ◌≤◌, ◌<◌, min, ◌≡◌, false, List, length, replicate}
+use Rattle.std.proofs.Common.{zero-le, ◌∙◌, mul-le-mul_left, arith}
 use Rattle.std.proofs.lemmas.List.{length-replicate}
 use Rattle.std.proofs.lemmas.Bool.{lt-leb}
 use Rattle.polynomials.specs.IndexLaws.{length-upto, upto-at, some-none}

@@ -3,16 +3,16 @@
 --     pack_answer s xs    the setting's checks, 9, 8; then the word, the sum of a_i q^i
 --     pack-gives         the numbers that this can give, and no other
 --     Packs s xs r       the promise of pack; pack-once: it allows one answer only
-use Rattle.std.specs.Prelude.{ℕ, ◌≡◌, Bool, not, List, [], ◌∷◌, ◌++◌, eqb, length}
+use Rattle.std.specs.Prelude.{ℕ, ◌≡◌, Bool, not, List, [], ◌∷◌, ◌++◌, eqb, length, Result}
 use Rattle.polynomials.specs.Places.{packed}
 use Rattle.settings.specs.Answers.{Answer, answered, refuse, ◌and_then◌, Given}
 use Rattle.settings.specs.AnswerLaws.{given-value, given-check, given-then}
-use Rattle.settings.specs.SharedAnswers.{packed_says, packed-once}
 use Rattle.settings.specs.Settings.{setting_checks, setting_numbers, setting-gives, base}
 use Rattle.settings.specs.Coefficients.{coefficient_check, coefficient-gives}
 use Rattle.packed.specs.Taken.{taken}
 use Rattle.settings.specs.declared.setting.Setting.{Setting}
-use Rattle.settings.specs.declared.answers.Packed.{Packed}
+use Rattle.settings.specs.Refusals.{says, says-once}
+use Rattle.settings.specs.declared.refusals.Refusal.{Refusal}
 
 abbrev pub shape_cause : ℕ → List ℕ → Bool
 shape_cause k xs = not (eqb (length xs) k)
@@ -31,8 +31,8 @@ pack-gives s xs =
     (given-then (given-check (shape_cause s.k xs) 9 0)
     (given-then (coefficient-gives s.p xs) (given-value (packed (base s) (taken s.p xs)))))
 
-abbrev pub Packs : Setting → List ℕ → Packed → Type 0
-Packs s xs r = packed_says r ≡ pack_answer s xs
+abbrev pub Packs : Setting → List ℕ → Result ℕ Refusal → Type 0
+Packs s xs r = says r ≡ pack_answer s xs
 
-pub pack-once : (s : Setting) (xs : List ℕ) (a b : Packed) → Packs s xs a → Packs s xs b → a ≡ b
-pack-once s xs a b = packed-once a b (pack_answer s xs)
+pub pack-once : (s : Setting) (xs : List ℕ) (a b : Result ℕ Refusal) → Packs s xs a → Packs s xs b → a ≡ b
+pack-once s xs a b = says-once a b (pack_answer s xs)

@@ -7,7 +7,7 @@
 --     product-written       a list filled with the sums modulo p is what product promises
 --     product-checks-same   accepted settings with one p refuse the same lists, with the same number and place
 --     product-by-modulus    so two accepted settings with one p give one answer and one list
-use Rattle.std.specs.Prelude.{ℕ, zero, suc, ◌+◌, ◌-◌, ◌≤◌, ◌<◌, ◌≡◌, refl, List, ltb, length}
+use Rattle.std.specs.Prelude.{ℕ, zero, suc, ◌+◌, ◌-◌, ◌≤◌, ◌<◌, ◌≡◌, refl, List, ltb, length, Result, Ok}
 use Rattle.std.proofs.Common.{sym, ap, ◌∙◌, arith, ltb-false}
 use Rattle.std.proofs.Math.Path.{fun_ext}
 use Rattle.polynomials.specs.Tests.{neither}
@@ -24,8 +24,7 @@ use Rattle.settings.specs.Bounds.{Bounds, bounds}
 use Rattle.packed.specs.OverflowLaws.{never-overflows}
 use Rattle.packed.specs.Products.{factors_cause, factor_checks, product_checks, Multiplies, product_residue}
 use Rattle.settings.specs.declared.setting.Setting.{Setting}
-use Rattle.settings.specs.declared.answers.Wrote.{Wrote}
-use Rattle.settings.specs.declared.answers.Wrote.TheVariants.{Count}
+use Rattle.settings.specs.declared.refusals.Refusal.{Refusal}
 
 pub record Factors (s : Setting) (a b : List ℕ) (len : ℕ) : Type 0 where
   pub bounded : Bounds s
@@ -72,7 +71,7 @@ residue-at : (p : ℕ) (a b : List ℕ) (j : ℕ) → product_residue p a b j �
 residue-at p a b j = sym (coefficient-residues p (product a b) j ∙ rw (coefficient-product a b j))
 
 pub product-written : (s : Setting) (a b old after : List ℕ) (m : ℕ) → factor_checks s a b (length old) ≡ fine → m ≡ product_length (length a) (length b)
-    → after ≡ filled m (product_residue s.p a b) old → Multiplies s a b old (Count m) after
+    → after ≡ filled m (product_residue s.p a b) old → Multiplies s a b old (Ok m) after
 product-written s a b old after m e size h =
     writes-list (product_checks s a b (length old)) m (residues s.p (product a b)) old after (product-fine s a b (length old) e) (length-residues s.p (product a b) ∙ length-product a b ∙ sym size)
     (h ∙ ap (λ (f : ℕ → ℕ). filled m f old) (fun_ext (λ j. residue-at s.p a b j)))
@@ -91,7 +90,7 @@ product-checks-same s u a b len hs hu e = go (factor_checks s a b len) refl
     go (answered w) h = product-fine s a b len h ∙ sym (product-fine u a b len (sym same ∙ h))
     go (refused number place) h = product-refused s a b len number place h ∙ sym (product-refused u a b len number place (sym same ∙ h))
 
-pub product-by-modulus : (s u : Setting) (a b old : List ℕ) (r v : Wrote) (x y : List ℕ) → setting_checks s ≡ fine → setting_checks u ≡ fine → s.p ≡ u.p → Multiplies s a b old r x → Multiplies u a b old v y
+pub product-by-modulus : (s u : Setting) (a b old : List ℕ) (r v : Result ℕ Refusal) (x y : List ℕ) → setting_checks s ≡ fine → setting_checks u ≡ fine → s.p ≡ u.p → Multiplies s a b old r x → Multiplies u a b old v y
     → (r ≡ v) × (x ≡ y)
 product-by-modulus s u a b old r v x y hs hu e hr hv =
     writes-once (product_checks u a b (length old)) (residues u.p (product a b)) old r v x y (rw (product-checks-same s u a b (length old) hs hu e, e) at hr) hv

@@ -6,7 +6,7 @@
 --     product_residue p a b j        that coefficient: the sum of a_i b_(j-i), modulo p
 --     Multiplies s a b old r after  the promise of product: the coefficients of the product modulo p
 --     product-once                  it allows one answer and one list only
-use Rattle.std.specs.Prelude.{ℕ, ◌%◌, ◌≡◌, Bool, ◌||◌, List, [], ◌∷◌, ◌++◌, ltb, length}
+use Rattle.std.specs.Prelude.{ℕ, ◌%◌, ◌≡◌, Bool, ◌||◌, List, [], ◌∷◌, ◌++◌, ltb, length, Result}
 use Rattle.polynomials.specs.Lists.{product_length, product_at, product, residues}
 use Rattle.settings.specs.Limits.{longest_factor}
 use Rattle.settings.specs.Answers.{Verdict, refuse, ◌and_then◌, Given}
@@ -16,7 +16,7 @@ use Rattle.settings.specs.Settings.{setting_checks, setting_numbers, setting-giv
 use Rattle.settings.specs.Coefficients.{coefficients_check, coefficients-gives}
 use Rattle.packed.specs.Overflow.{overflow_cause}
 use Rattle.settings.specs.declared.setting.Setting.{Setting}
-use Rattle.settings.specs.declared.answers.Wrote.{Wrote}
+use Rattle.settings.specs.declared.refusals.Refusal.{Refusal}
 
 abbrev pub factors_cause : ℕ → ℕ → Bool
 factors_cause m n = ltb longest_factor m || ltb longest_factor n
@@ -43,8 +43,8 @@ product-gives s a b len =
 abbrev pub product_residue : ℕ → List ℕ → List ℕ → ℕ → ℕ
 product_residue p a b j = product_at a b j % p
 
-abbrev pub Multiplies : Setting → List ℕ → List ℕ → List ℕ → Wrote → List ℕ → Type 0
+abbrev pub Multiplies : Setting → List ℕ → List ℕ → List ℕ → Result ℕ Refusal → List ℕ → Type 0
 Multiplies s a b old r after = Writes (product_checks s a b (length old)) (residues s.p (product a b)) old r after
 
-pub product-once : (s : Setting) (a b old : List ℕ) (r u : Wrote) (x y : List ℕ) → Multiplies s a b old r x → Multiplies s a b old u y → (r ≡ u) × (x ≡ y)
+pub product-once : (s : Setting) (a b old : List ℕ) (r u : Result ℕ Refusal) (x y : List ℕ) → Multiplies s a b old r x → Multiplies s a b old u y → (r ≡ u) × (x ≡ y)
 product-once s a b old = writes-once (product_checks s a b (length old)) (residues s.p (product a b)) old

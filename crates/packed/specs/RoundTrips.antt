@@ -5,10 +5,10 @@
 --     packed-to-fields its fields are the list, and then k-1 zeros
 --     unpack-pack      what pack answers for a list, unpack turns into that list and then k-1 zeros
 --     pack-unpack      packing the first k of these fields returns the word
-use Rattle.std.specs.Prelude.{ℕ, ◌+◌, ◌-◌, ◌^◌, ◌≤◌, ◌≡◌, refl, false, List, ◌++◌, length, take, drop, replicate}
+use Rattle.std.specs.Prelude.{ℕ, ◌+◌, ◌-◌, ◌^◌, ◌≤◌, ◌≡◌, refl, false, List, ◌++◌, length, take, drop, replicate, Result, Ok}
 use Rattle.std.proofs.Common.{sym, ap, ◌∙◌, append_assoc, lt_of_lt_of_le, arith, length-append, take_at}
 use Rattle.std.proofs.lemmas.List.{length-replicate}
-use borrow.Author.Tests.{le-ltb, lt-leb, eqb-true, not-false}
+use Rattle.std.proofs.lemmas.Bool.{le-ltb, lt-leb, eqb-true, not-false}
 use Rattle.polynomials.specs.Lists.{Below}
 use Rattle.polynomials.specs.ListLaws.{coefficient-zeros}
 use Rattle.polynomials.specs.Places.{packed, field, fields}
@@ -24,10 +24,7 @@ use Rattle.packed.specs.Packing.{shape_cause, pack_answer, Packs, pack-once}
 use Rattle.words.specs.WordLaws.{span-power}
 use Rattle.settings.specs.Bounds.{bounds}
 use Rattle.settings.specs.declared.setting.Setting.{Setting}
-use Rattle.settings.specs.declared.answers.Packed.{Packed}
-use Rattle.settings.specs.declared.answers.Packed.TheVariants.{Word}
-use Rattle.settings.specs.declared.answers.Wrote.{Wrote}
-use Rattle.settings.specs.declared.answers.Wrote.TheVariants.{Count}
+use Rattle.settings.specs.declared.refusals.Refusal.{Refusal}
 
 pub record PackedTo (s : Setting) (xs : List ℕ) (w : ℕ) : Type 0 where
   pub accepted : setting_checks s ≡ fine
@@ -35,7 +32,7 @@ pub record PackedTo (s : Setting) (xs : List ℕ) (w : ℕ) : Type 0 where
   pub below : Below s.p xs
   pub word : w ≡ packed (base s) xs
 
-pub packed-to : (s : Setting) (xs : List ℕ) (w : ℕ) → Packs s xs (Word w) → PackedTo s xs w
+pub packed-to : (s : Setting) (xs : List ℕ) (w : ℕ) → Packs s xs (Ok w) → PackedTo s xs w
 unfolding pack_answer
 packed-to s xs w e =
     let a = passed_first (setting_checks s) _ w (sym e) in
@@ -72,18 +69,18 @@ module _ (s : Setting) (xs : List ℕ) (w : ℕ) (made : PackedTo s xs w) where
   unfolding places_checks word_checks
   made-places len h = rw (made.accepted, packed-to-word, le-ltb len (places s) h)
 
-pub unpack-pack : (s : Setting) (xs old after : List ℕ) (w : ℕ) (r : Wrote) → Packs s xs (Word w) → Unpacks s w old r after → places s ≤ length old
-    → (r ≡ Count (places s)) × (after ≡ xs ++ (replicate (s.k - 1) 0 ++ drop (places s) old))
+pub unpack-pack : (s : Setting) (xs old after : List ℕ) (w : ℕ) (r : Result ℕ Refusal) → Packs s xs (Ok w) → Unpacks s w old r after → places s ≤ length old
+    → (r ≡ Ok (places s)) × (after ≡ xs ++ (replicate (s.k - 1) 0 ++ drop (places s) old))
 unpack-pack s xs old after w r packs unpacks h =
     let made = packed-to s xs w packs in
     let checks = places_checks s w (length old) in
     let new = fields (base s) (places s) w in
-    let kept = writes-once checks new old r (Count (places s)) after (new ++ drop (places s) old) unpacks (writes-filled checks (places s) (field (base s) w) old (new ++ drop (places s) old) (made-places s xs w made (length old) h) refl) in
+    let kept = writes-once checks new old r (Ok (places s)) after (new ++ drop (places s) old) unpacks (writes-filled checks (places s) (field (base s) w) old (new ++ drop (places s) old) (made-places s xs w made (length old) h) refl) in
     (kept.0, kept.1 ∙ ap (λ (l : List ℕ). l ++ drop (places s) old) (packed-to-fields s xs w made) ∙ append_assoc xs (replicate (s.k - 1) 0) (drop (places s) old))
 
-pub pack-unpack : (s : Setting) (xs old after : List ℕ) (w : ℕ) (r : Wrote) (again : Packed) → Packs s xs (Word w) → Unpacks s w old r after → places s ≤ length old
-    → Packs s (take s.k after) again → again ≡ Word w
+pub pack-unpack : (s : Setting) (xs old after : List ℕ) (w : ℕ) (r : Result ℕ Refusal) (again : Result ℕ Refusal) → Packs s xs (Ok w) → Unpacks s w old r after → places s ≤ length old
+    → Packs s (take s.k after) again → again ≡ Ok w
 pack-unpack s xs old after w r again packs unpacks h packs-again =
     let list = (unpack-pack s xs old after w r packs unpacks h).1 in
     let first-k : take s.k after ≡ xs = ap (take s.k) list ∙ take_at xs (replicate (s.k - 1) 0 ++ drop (places s) old) s.k (packed-to s xs w packs).size in
-    pack-once s xs again (Word w) (rw first-k at packs-again) packs
+    pack-once s xs again (Ok w) (rw first-k at packs-again) packs

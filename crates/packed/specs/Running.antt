@@ -14,35 +14,33 @@
 --     pair_checks r xs ys            12, 9, 13, 8; feed_checks, these, then 18
 --     close_checks r len             12, 10: a list of len elements is lent for the 2k-1 coefficients
 --     feed-gives, close-gives       the numbers that these can give, and no other
---     counted_says, closed_says       the numbers that each case of an answer stands for; counted_of, closed_of, the way back, as counted_back, closed-back say
---     kept_by v new old              the record handed back: as it was on a refusal, else the new one
+--     record_check r                12 alone
+--     kept_by v new old              the record afterwards: as it was on a refusal, else the new one
+--     fed r a                       the record after a feed, and what it answered
 --     fresh_sum, record_of s u        in a fresh record all but the setting is zero; the record of a setting and a sum
 --     Freshens, Feeds, Closes       the promises of fresh, feed, close; fresh-once, feed-once, close-once: each allows one result only
-use Rattle.std.specs.Prelude.{ℕ, ◌+◌, ◌-◌, ◌*◌, ◌/◌, ◌%◌, ◌^◌, ◌≤◌, ◌<◌, ◌≡◌, refl, Bool, not, ◌||◌, List, [], ◌∷◌, ltb, eqb, length, replicate}
+use Rattle.std.specs.Prelude.{ℕ, ◌+◌, ◌-◌, ◌*◌, ◌/◌, ◌%◌, ◌^◌, ◌≤◌, ◌<◌, ◌≡◌, Bool, not, ◌||◌, List, [], ◌∷◌, ltb, eqb, length, replicate, Result}
 use Rattle.std.proofs.Common.{sym, ap, ◌∙◌}
 use Rattle.polynomials.specs.Indices.{pick, upto, filled, exceeds, rounded_up}
 use Rattle.polynomials.specs.Lists.{coefficient, Below, Pair, batch_most}
 use Rattle.polynomials.specs.Places.{packed, field}
 use Rattle.polynomials.specs.Pairs.{pairs_of}
 use Rattle.settings.specs.Limits.{most_pairs, residue_places}
-use Rattle.settings.specs.Answers.{Answer, answered, refused, Verdict, fine, refuse, refuses, ◌and_then◌, left_by, Given}
-use Rattle.settings.specs.AnswerLaws.{once, given-check, given-then}
+use Rattle.settings.specs.Answers.{answered, refused, Verdict, fine, refuse, refuses, ◌and_then◌, left_by, Given}
+use Rattle.settings.specs.AnswerLaws.{given-check, given-then}
 use Rattle.settings.specs.SharedAnswers.{short_cause}
-use Rattle.settings.specs.Settings.{setting_checks, base, places, span_of, checked_says, check-once}
+use Rattle.settings.specs.Settings.{setting_checks, base, places, span_of, check-once}
 use Rattle.settings.specs.Coefficients.{coefficients_check, coefficients-gives}
 use Rattle.packed.specs.Taken.{taken}
 use Rattle.words.specs.Places.{word_cause}
 use Rattle.packed.specs.Overflow.{feed_overflow}
 use Rattle.settings.specs.declared.setting.Setting.{Setting}
-use Rattle.settings.specs.declared.setting.Checked.{Checked}
 use Rattle.packed.specs.declared.running.Sum.{Sum}
 use Rattle.packed.specs.declared.running.Record.{Record}
 use Rattle.packed.specs.declared.running.Begun.{Begun}
 use Rattle.packed.specs.declared.running.Fed.{Fed}
-use Rattle.packed.specs.declared.running.Counted.{Counted}
-use Rattle.packed.specs.declared.running.Counted.TheVariants as in_counted
-use Rattle.packed.specs.declared.running.Closed.{Closed}
-use Rattle.packed.specs.declared.running.Closed.TheVariants as in_closed
+use Rattle.settings.specs.Refusals.{says, says-once}
+use Rattle.settings.specs.declared.refusals.Refusal.{Refusal}
 
 -- ---- 12
 
@@ -109,6 +107,10 @@ pairs_cause k m n = not (eqb m n) || not (eqb (m % k) 0)
 abbrev pub record_full_cause : ℕ → ℕ → Bool
 record_full_cause total pairs = ltb most_pairs (total + pairs)
 
+-- 12 alone
+abbrev pub record_check : Record → Verdict
+record_check r = refuse (record_cause r) 12 0
+
 unfoldable pub pair_checks : Record → List ℕ → List ℕ → Verdict
 pair_checks r xs ys =
     refuse (record_cause r) 12 0
@@ -137,30 +139,6 @@ close-gives r len = given-then (given-check (record_cause r) 12 0) (given-check 
 
 -- ---- answers
 
-abbrev pub counted_says : Counted → Answer ℕ
-counted_says (in_counted.Pairs m) = answered m
-counted_says (in_counted.Refused r) = refused r.number r.place
-
-abbrev pub counted_of : Answer ℕ → Counted
-counted_of (answered m) = in_counted.Pairs m
-counted_of (refused number place) = in_counted.Refused (record { number = number; place = place })
-
-pub counted_back : (r : Counted) → counted_of (counted_says r) ≡ r
-counted_back (in_counted.Pairs m) = refl
-counted_back (in_counted.Refused r) = refl
-
-abbrev pub closed_says : Closed → Answer ℕ
-closed_says (in_closed.Reductions m) = answered m
-closed_says (in_closed.Refused r) = refused r.number r.place
-
-abbrev pub closed_of : Answer ℕ → Closed
-closed_of (answered m) = in_closed.Reductions m
-closed_of (refused number place) = in_closed.Refused (record { number = number; place = place })
-
-pub closed-back : (r : Closed) → closed_of (closed_says r) ≡ r
-closed-back (in_closed.Reductions m) = refl
-closed-back (in_closed.Refused r) = refl
-
 abbrev pub kept_by : Verdict → Record → Record → Record
 kept_by (answered u) new old = new
 kept_by (refused number place) new old = old
@@ -174,33 +152,33 @@ abbrev pub record_of : Setting → Sum → Record
 record_of s u = record { setting = s; sum = u }
 
 abbrev pub Freshens : Setting → Begun → Type 0
-Freshens s b = (checked_says b.answer ≡ setting_checks s) × (b.running ≡ record_of s fresh_sum)
+Freshens s b = (says b.answer ≡ setting_checks s) × (b.running ≡ record_of s fresh_sum)
 
 pub fresh-once : (s : Setting) (a b : Begun) → Freshens s a → Freshens s b → a ≡ b
 fresh-once s a b ha hb = ap (λ (r : Record). made r a.answer) (ha.1 ∙ sym hb.1) ∙ ap (made b.running) (check-once s a.answer b.answer ha.0 hb.0)
   where
-    made : Record → Checked → Begun
+    made : Record → Result (Unit {0}) Refusal → Begun
     made r c = record { running = r; answer = c }
 
 -- ---- feed
 
+abbrev pub fed : Record → Result ℕ Refusal → Fed
+fed r a = record { running = r; answer = a }
+
 abbrev pub Feeds : Record → List ℕ → List ℕ → Fed → Type 0
 Feeds r xs ys f =
-    (counted_says f.answer ≡ (feed_checks r xs ys and_then answered (length xs / r.setting.k)))
+    (says f.answer ≡ (feed_checks r xs ys and_then answered (length xs / r.setting.k)))
     × (f.running ≡ kept_by (feed_checks r xs ys) (record_of r.setting (after_pairs r.setting r.sum (fed_pairs r.setting xs ys))) r)
 
 pub feed-once : (r : Record) (xs ys : List ℕ) (a b : Fed) → Feeds r xs ys a → Feeds r xs ys b → a ≡ b
-feed-once r xs ys a b ha hb = ap (λ (r : Record). made r a.answer) (ha.1 ∙ sym hb.1) ∙ ap (made b.running) (once counted_says counted_of counted_back a.answer b.answer _ ha.0 hb.0)
-  where
-    made : Record → Counted → Fed
-    made r c = record { running = r; answer = c }
+feed-once r xs ys a b ha hb = ap (λ (r : Record). fed r a.answer) (ha.1 ∙ sym hb.1) ∙ ap (fed b.running) (says-once a.answer b.answer _ ha.0 hb.0)
 
 -- ---- close
 
-abbrev pub Closes : Record → List ℕ → Closed → List ℕ → Type 0
+abbrev pub Closes : Record → List ℕ → Result ℕ Refusal → List ℕ → Type 0
 Closes r old a after =
-    (closed_says a ≡ (close_checks r (length old) and_then answered (rounded_up r.sum.total r.setting.n)))
+    (says a ≡ (close_checks r (length old) and_then answered (rounded_up r.sum.total r.setting.n)))
     × (after ≡ left_by (close_checks r (length old)) (upto (places r.setting) (closing_at r.setting r.sum)) old)
 
-pub close-once : (r : Record) (old : List ℕ) (a b : Closed) (x y : List ℕ) → Closes r old a x → Closes r old b y → (a ≡ b) × (x ≡ y)
-close-once r old a b x y ha hb = (once closed_says closed_of closed-back a b _ ha.0 hb.0, ha.1 ∙ sym hb.1)
+pub close-once : (r : Record) (old : List ℕ) (a b : Result ℕ Refusal) (x y : List ℕ) → Closes r old a x → Closes r old b y → (a ≡ b) × (x ≡ y)
+close-once r old a b x y ha hb = (says-once a b _ ha.0 hb.0, ha.1 ∙ sym hb.1)

@@ -9,11 +9,9 @@
 --     Told, feed-told               a feed that was not refused: the lists could be fed, what it answered, and the record after it
 --     close-checked, close-pass     what passing the checks of close says; what is left of them for a coherent record
 --     close-nothing, close-written  what keeps its promise: the list as it was beside a refusal, and the list filled
-use Prim.Native.Nat.{ℕ, zero, suc, ◌+◌, ◌-◌, ◌/◌, ◌%◌, ◌^◌, ◌≤◌, ◌<◌, min}
-use Rattle.std.specs.Prelude.{◌≡◌, refl, Bool, true, false, not, ◌↔◌, eqb, length}
+use Rattle.std.specs.Prelude.{ℕ, zero, suc, ◌+◌, ◌-◌, ◌/◌, ◌%◌, ◌^◌, ◌≤◌, ◌<◌, min, ◌≡◌, refl, List, [], ◌∷◌, Bool, true, false, not, ◌↔◌, eqb, length, Result, Ok, Err}
 use Rattle.std.proofs.Common.{sym, ◌∙◌, true≢false, mod-lt, arith}
-use mathlib.Core.List.{List, [], ◌∷◌}
-use borrow.Author.Tests.{eqb-true, eq-eqb, not-false, ltb-false, le-ltb, lt-leb}
+use Rattle.std.proofs.lemmas.Bool.{eqb-true, eq-eqb, not-false, ltb-false, le-ltb, lt-leb}
 use Rattle.polynomials.specs.Tests.{neither}
 use Rattle.polynomials.specs.Indices.{filled, rounded_up}
 use Rattle.polynomials.specs.IndexLaws.{length-upto, upto-at, some-none}
@@ -21,24 +19,22 @@ use Rattle.polynomials.specs.Lists.{coefficient, Pair, Pairs}
 use Rattle.polynomials.specs.Blocks.{block_at, dot}
 use Rattle.settings.specs.Limits.{most_pairs, word_bits}
 use Rattle.settings.specs.Answers.{answered, refused, Verdict, fine, refuses, refuse, is_in, Given}
-use Rattle.settings.specs.AnswerLaws.{once, never, passed, passed-last, given-check, given-then}
+use Rattle.settings.specs.AnswerLaws.{never, passed, passed-last, given-check, given-then}
 use Rattle.settings.specs.SharedAnswers.{short_cause}
 use Rattle.settings.specs.Settings.{base, places}
 use Rattle.settings.specs.Coefficients.{too_large, coefficients-check, coefficients-gives}
 use Rattle.packed.specs.Taken.{taken}
 use Rattle.settings.specs.Bounds.{bounds, pairs-fit}
 use Rattle.packed.specs.Overflow.{run_sums, feed_overflow}
-use Rattle.packed.specs.Running.{open_pairs, record_cause, Coherent, pairs_cause, record_full_cause, pair_checks, feed_checks, close_checks, counted_says, counted_of, counted_back, record_of, Feeds, closing_at, Closes}
+use Rattle.packed.specs.Running.{open_pairs, record_cause, Coherent, pairs_cause, record_full_cause, pair_checks, feed_checks, close_checks, record_of, Feeds, closing_at, Closes}
 use Rattle.packed.specs.RunningLaws.{coherent-is, open-room}
 use Rattle.packed.specs.FedPairs.{run-count, run-words, run-operands, pairs_from, PairsToFeed, fed_sum}
 use Rattle.settings.specs.declared.refusals.Refusal.{Refusal}
 use Rattle.settings.specs.declared.setting.Setting.{Setting}
 use Rattle.packed.specs.declared.running.Sum.{Sum}
 use Rattle.packed.specs.declared.running.Record.{Record}
+use Rattle.settings.specs.Refusals.{number_of, place_of, says, says-once}
 use Rattle.packed.specs.declared.running.Fed.{Fed}
-use Rattle.packed.specs.declared.running.Counted.{Counted}
-use Rattle.packed.specs.declared.running.Counted.TheVariants as in_counted
-use Rattle.packed.specs.declared.running.Closed.TheVariants as in_closed
 
 pub pairs-shape : (k m n : ℕ) → (pairs_cause k m n ≡ false) ↔ ((m ≡ n) × (m % k ≡ 0))
 pairs-shape k m n = (
@@ -152,22 +148,22 @@ module _ (r : Record) (xs ys : List ℕ) (h : Coherent r.setting r.sum) where
       go (answered u) e number place refusal = absurd (never number place tt (sym refusal ∙ feed-fine r xs ys e))
       go (refused n i) e number place refusal = before-8.each number place (e ∙ sym (feed-refused r xs ys n i e) ∙ refusal)
 
-pub feed-nothing : (r : Record) (xs ys : List ℕ) (why : Refusal) → pair_checks r xs ys ≡ refused why.number why.place → Feeds r xs ys (record { running = r; answer = in_counted.Refused why })
-feed-nothing r xs ys why e = let all = feed-refused r xs ys why.number why.place e in (rw all, rw all)
+pub feed-nothing : (r : Record) (xs ys : List ℕ) (why : Refusal) → pair_checks r xs ys ≡ refused (number_of why) (place_of why) → Feeds r xs ys (record { running = r; answer = Err why })
+feed-nothing r xs ys why e = let all = feed-refused r xs ys (number_of why) (place_of why) e in (rw all, rw all)
 
 pub feed-taken : (r : Record) (xs ys : List ℕ) (u : Sum) → pair_checks r xs ys ≡ fine → u ≡ fed_sum r.setting r.sum xs ys
-    → Feeds r xs ys (record { running = record_of r.setting u; answer = in_counted.Pairs (length xs / r.setting.k) })
+    → Feeds r xs ys (record { running = record_of r.setting u; answer = Ok (length xs / r.setting.k) })
 feed-taken r xs ys u e is = let all = feed-fine r xs ys e in (rw all, rw (all, is))
 
-counted-only : (a : Counted) (m : ℕ) → counted_says a ≡ answered m → a ≡ in_counted.Pairs m
-counted-only a m e = once counted_says counted_of counted_back a (in_counted.Pairs m) (answered m) e refl
+counted-only : (a : Result ℕ Refusal) (m : ℕ) → says a ≡ answered m → a ≡ Ok m
+counted-only a m e = says-once a (Ok m) (answered m) e refl
 
 pub record Told (r : Record) (xs ys : List ℕ) (f : Fed) : Type 0 where
   pub could : PairsToFeed r.setting r.sum xs ys
-  pub took : f.answer ≡ in_counted.Pairs (length xs / r.setting.k)
+  pub took : f.answer ≡ Ok (length xs / r.setting.k)
   pub after : f.running ≡ record_of r.setting (fed_sum r.setting r.sum xs ys)
 
-pub feed-told : (r : Record) (xs ys : List ℕ) (f : Fed) → Feeds r xs ys f → refuses (counted_says f.answer) ≡ false → Told r xs ys f
+pub feed-told : (r : Record) (xs ys : List ℕ) (f : Fed) → Feeds r xs ys f → refuses (says f.answer) ≡ false → Told r xs ys f
 feed-told r xs ys f h took = go (pair_checks r xs ys) refl
   where
     go : (v : Verdict) → pair_checks r xs ys ≡ v → Told r xs ys f
@@ -178,7 +174,7 @@ feed-told r xs ys f h took = go (pair_checks r xs ys) refl
           after = rw (feed-fine r xs ys e) at h.1;
         }
     go (refused number place) e =
-        let said : counted_says f.answer ≡ refused number place = rw (feed-refused r xs ys number place e) at h.0 in
+        let said : says f.answer ≡ refused number place = rw (feed-refused r xs ys number place e) at h.0 in
         absurd (true≢false (rw said at took))
 
 pub close-checked : (r : Record) (len : ℕ) → close_checks r len ≡ fine → Coherent r.setting r.sum × (places r.setting ≤ len)
@@ -191,9 +187,9 @@ pub close-pass : (r : Record) (len : ℕ) → Coherent r.setting r.sum → close
 unfolding close_checks
 close-pass r len h = rw ((coherent-is r).1 h)
 
-pub close-nothing : (r : Record) (old : List ℕ) (why : Refusal) → close_checks r (length old) ≡ refused why.number why.place → Closes r old (in_closed.Refused why) old
+pub close-nothing : (r : Record) (old : List ℕ) (why : Refusal) → close_checks r (length old) ≡ refused (number_of why) (place_of why) → Closes r old (Err why) old
 close-nothing r old why e = (rw e, rw e)
 
 pub close-written : (r : Record) (old after : List ℕ) → close_checks r (length old) ≡ fine → after ≡ filled (places r.setting) (closing_at r.setting r.sum) old
-    → Closes r old (in_closed.Reductions (rounded_up r.sum.total r.setting.n)) after
+    → Closes r old (Ok (rounded_up r.sum.total r.setting.n)) after
 close-written r old after e h = (rw e, rw (e, length-upto (places r.setting) (closing_at r.setting r.sum)) h)

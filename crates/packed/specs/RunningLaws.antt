@@ -15,7 +15,7 @@ use Rattle.std.proofs.Math.Bool.{true, false}
 use Rattle.std.proofs.Math.Nat.{zero-div, zero-mod}
 use Rattle.std.proofs.Math.Decide.{dec_lt}
 use Rattle.std.proofs.Math.ListN.{length}
-use borrow.Author.Tests.{eq-eqb, ne_eqb, lt-ltb, le-ltb, ltb-false, lt-leb, leb-false}
+use Rattle.std.proofs.lemmas.Bool.{eq-eqb, ne_eqb, lt-ltb, le-ltb, ltb-false, lt-leb, leb-false}
 use Rattle.polynomials.specs.Tests.{neither}
 use Rattle.polynomials.specs.Indices.{pick, filled}
 use Rattle.polynomials.specs.IndexLaws.{upto-at, upto-past, exceeds-none}

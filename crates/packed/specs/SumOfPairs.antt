@@ -5,9 +5,8 @@
 --     closing-sum             its closing coefficients are the schoolbook sum modulo p
 --     sum_more                feeding pairs to the record of some pairs gives the record of them all
 --     sum-none, sum-fresh     the record of no pairs is a fresh one; so it is with a fresh one too
-use Rattle.std.specs.Prelude.{ℕ, ◌+◌, ◌*◌, ◌/◌, ◌%◌, ◌≤◌, ◌<◌, ◌≡◌, length}
-use Rattle.std.proofs.Common.{sym, ap, ◌∙◌, lt_of_le_of_lt, add-zero, mod-lt, zero-mul, arith, length-append}
-use mathlib.Core.List.{List, [], ◌∷◌, ◌++◌, append-nil, append_assoc}
+use Rattle.std.specs.Prelude.{ℕ, ◌+◌, ◌*◌, ◌/◌, ◌%◌, ◌≤◌, ◌<◌, ◌≡◌, List, [], ◌∷◌, ◌++◌, length}
+use Rattle.std.proofs.Common.{sym, ap, ◌∙◌, lt_of_le_of_lt, add-zero, mod-lt, zero-mul, append-nil, append_assoc, arith, length-append}
 use Rattle.std.proofs.Math.Nat.{zero-div, zero-mod, mod-add-mod}
 use Rattle.std.proofs.Math.Decide.{dec_lt}
 use Rattle.polynomials.specs.Indices.{upto, filled}

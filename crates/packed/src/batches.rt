@@ -1,52 +1,42 @@
 // The work of feed and close, on the sum that a record holds. One multiplication a pair; a batch of n pairs is added up in one word before it is
 // split, and its fields go into the residues. No division is made for a pair.
-ghost use Rattle.std.specs.Prelude.{◌≡◌, true, ◌+◌, ◌-◌, ◌*◌, ◌^◌, ◌%◌, ◌<◌, ◌≤◌, length};
+ghost use Rattle.std.specs.Prelude.{◌≡◌, Ok, ◌+◌, ◌%◌, ◌<◌, ◌≤◌, length};
 ghost use Rattle.polynomials.specs.Indices.{filled};
-ghost use Rattle.settings.specs.Limits.{largest_modulus, word_bits};
 ghost use Rattle.packed.specs.Running.{split, closing_of};
-ghost use Rattle.settings.specs.Bounds.{Bounds};
+ghost use Rattle.settings.specs.Settings.{base, places};
 ghost use Rattle.packed.specs.Feeding.{OpenBatch, after_batch, Multiplying};
 ghost use Rattle.packed.specs.FedPairs.{PairsToFeed, fed_sum, products};
 
-use crate::arithmetic::{least, pack_taken, places, power, wide};
+use crate::arithmetic::pack_taken;
 use crate::overflow::{overflows, products_that_fit};
 use crate::running::Sum;
+use settings::accepted::Accepted;
+use settings::refusals::Refusal;
 use settings::setting::Setting;
 
-// The sum after some pairs, or that 18 would be given, and that is nowhere.
-#[derive(Clone, Copy)]
-pub struct Added {
-    pub sum: Sum,
-    pub fits: bool,
-}
-
-// All pairs of two flat lists, a batch at a time: what the open batch still takes, then n pairs, then what is left.
-pub fn add_pairs(s: Setting, sum: Sum, xs: &[u16], ys: &[u16]) -> Added
-    requires { PairsToFeed s sum xs.now ys.now }
-    ensures { (result.fits ≡ true) × (result.sum ≡ fed_sum s sum xs.now ys.now) }
+// All pairs of two flat lists, a batch at a time: what the open batch still takes, then n pairs, then what is left. 18 would be given where a word
+// overflows, and that is nowhere. A `while`, as a turn takes as many pairs as its batch.
+pub fn add_pairs(s: Accepted, sum: Sum, xs: &[u16], ys: &[u16]) -> Result<Sum, Refusal>
+    requires { PairsToFeed s.setting sum xs.now ys.now }
+    ensures { result ≡ Ok (fed_sum s.setting sum xs.now ys.now) }
 {
-    let pairs = xs.len() / s.k as usize;
+    let n = s.setting.n;
+    let pairs = xs.len() / s.setting.k as usize;
     let fit = products_that_fit(s);
     let mut so_far = sum;
-    let mut held = sum.total % s.n;
+    let mut held = sum.total % n;
     let mut i = 0;
     while i < pairs {
-        let count = least((s.n - held) as usize, pairs - i);
+        let count = ((n - held) as usize).min(pairs - i);
         held += count as u64;
         if overflows(fit, held as usize) {
-            return Added {
-                sum: sum,
-                fits: false,
-            };
+            return Err(Refusal::Overflow);
         }
         so_far = add_batch(s, so_far, held, xs, ys, i, count);
-        held = reopened(s.n, held);
+        held = reopened(n, held);
         i += count;
     }
-    Added {
-        sum: so_far,
-        fits: true,
-    }
+    Ok(so_far)
 }
 
 // How many pairs the open batch holds: at n it is full, and the next is empty.
@@ -58,31 +48,38 @@ fn reopened(n: u64, held: u64) -> u64
 }
 
 // The next count pairs, from pair i on, after which the open batch holds held pairs. As soon as these are n, the word is split.
-fn add_batch(s: Setting, sum: Sum, held: u64, xs: &[u16], ys: &[u16], i: usize, count: usize) -> Sum
-    requires { OpenBatch s sum held xs.now ys.now i count }
-    ensures { result ≡ after_batch s sum xs.now ys.now i count }
+fn add_batch(
+    s: Accepted,
+    sum: Sum,
+    held: u64,
+    xs: &[u16],
+    ys: &[u16],
+    i: usize,
+    count: usize,
+) -> Sum
+    requires { OpenBatch s.setting sum held xs.now ys.now i count }
+    ensures { result ≡ after_batch s.setting sum xs.now ys.now i count }
 {
-    let word = add_products(s, xs, ys, i, count, sum.word);
+    let word = add_products(s.setting, xs, ys, i, count, sum.word);
     let residues = sum.residues;
     let next = Sum {
         total: sum.total + count as u64,
-        word: word,
-        residues: residues,
+        word,
+        residues,
     };
-    if held == s.n {
-        return split_word(s, next);
+    if held == s.setting.n {
+        split_word(s, next)
+    } else {
+        next
     }
-    next
 }
 
 // The word is split, its fields are added to the residues modulo p, and it is zero again.
-fn split_word(s: Setting, sum: Sum) -> Sum
-    requires { Bounds s }
-    ensures { result ≡ split s sum }
+fn split_word(s: Accepted, sum: Sum) -> Sum
+    ensures { result ≡ split s.setting sum }
 {
-    let old = sum.residues;
     let mut new = sum.residues;
-    add_residues(s.p, s.t, places(s.k), sum.word, &old, &mut new);
+    add_residues(s, sum.word, &sum.residues, &mut new);
     Sum {
         total: sum.total,
         word: 0,
@@ -90,37 +87,36 @@ fn split_word(s: Setting, sum: Sum) -> Sum
     }
 }
 
-// (residue + field) mod p, for the m lowest fields of the word, into the first m elements.
-pub fn add_residues(p: u64, t: u64, m: usize, word: u64, residues: &[u16], out: &mut [u16])
-    requires { (0 < p) × (p ≤ largest_modulus) × (t < word_bits) × (m ≤ length residues.now) × (m ≤ length out.old) }
-    ensures { out.new ≡ filled m (closing_of p (2 ^ t) word residues.now) out.old }
+// (residue + field) mod p, for the fields of the word, into the first elements.
+pub fn add_residues(s: Accepted, word: u64, residues: &[u16], out: &mut [u16])
+    requires { (places s.setting ≤ length residues.now) × (places s.setting ≤ length out.old) }
+    ensures { out.new ≡ filled (places s.setting) (closing_of s.setting.p (base s.setting) word residues.now) out.old }
 {
-    let q = power(t);
+    let p = s.setting.p;
+    let q = s.base();
     let mut rest = word;
-    let mut j = 0;
-    while j < m {
-        out[j] = ((wide(residues[j]) + rest % q) % p) as u16;
-        rest = rest >> t;
-        j += 1;
+    for j in 0..s.places() {
+        out[j] = ((u64::from(residues[j]) + rest % q) % p) as u16;
+        rest >>= s.setting.t;
     }
 }
 
-// The word, and the products of count pairs from pair i on. Where k is a number that is known, the packing is written out.
+// The word, and the products of count pairs from pair i on. The arms call one function with a constant, so that the packing is written out for it, which
+// is faster.
 fn add_products(s: Setting, xs: &[u16], ys: &[u16], i: usize, count: usize, word: u64) -> u64
     requires { Multiplying s.p s.t s.k xs.now ys.now i count word }
     ensures { result ≡ word + products s.p s.t s.k xs.now ys.now i count }
 {
-    let k = s.k;
-    match k {
+    match s.k {
         1 => add_words(s.p, s.t, 1, xs, ys, i, count, word),
         2 => add_words(s.p, s.t, 2, xs, ys, i, count, word),
         3 => add_words(s.p, s.t, 3, xs, ys, i, count, word),
         4 => add_words(s.p, s.t, 4, xs, ys, i, count, word),
-        _ => add_words(s.p, s.t, k, xs, ys, i, count, word),
+        k => add_words(s.p, s.t, k, xs, ys, i, count, word),
     }
 }
 
-// Two pairs a turn, so that what a turn costs is shared.
+// Two pairs a turn, so that what a turn costs is shared. A `while`, as the last turn may have one pair.
 fn add_words(
     p: u64,
     t: u64,
@@ -142,9 +138,10 @@ fn add_words(
         r += 2;
     }
     if r < count {
-        return add_pair(p, t, k, xs, ys, i + r, sum);
+        add_pair(p, t, k, xs, ys, i + r, sum)
+    } else {
+        sum
     }
-    sum
 }
 
 // The word, and the product of pair j.

@@ -2,20 +2,21 @@
 // the first list and block z - i of the second. Up to n of them are added in one word before it is split, and its 2k-1 fields are added,
 // unreduced, to 64-bit sums. Four columns are worked at once: they take the same words of the first list, and the second list lies backwards
 // with zeros around it, so that they take words of it which lie side by side.
-ghost use Rattle.std.specs.Prelude.{◌≡◌, true, ◌+◌, ◌-◌, ◌*◌, ◌^◌, ◌<◌, ◌≤◌, length};
+ghost use Rattle.std.specs.Prelude.{◌≡◌, Ok, ◌+◌, ◌-◌, ◌*◌, ◌^◌, ◌<◌, ◌≤◌, length};
 ghost use Rattle.polynomials.specs.Indices.{filled};
 ghost use Rattle.polynomials.specs.Places.{packed};
 ghost use Rattle.polynomials.specs.Blocks.{spread};
 ghost use Rattle.settings.specs.Limits.{largest_modulus, word_bits};
 ghost use Rattle.packed.specs.Gathering.{sum_residue, Gathering, Sums, AddingColumns, AddsColumns, Batching, BatchWords, AddingWords, AddsWords, AddsWord};
 
-use crate::arithmetic::{least, places, power, rounded_up};
+use crate::arithmetic::rounded_up;
 use crate::overflow::{overflows, products_that_fit};
-use settings::setting::Setting;
+use settings::accepted::Accepted;
+use settings::refusals::Refusal;
 
 const COLUMNS: usize = 4;
 
-// The sums of one batch in each of four columns.
+// The sums of one batch in each of four columns. Fields and not an array, as the contracts name each of the four.
 #[derive(Clone, Copy)]
 struct FourWords {
     first: u64,
@@ -25,32 +26,44 @@ struct FourWords {
 }
 
 // All columns of the product of a and b, whose blocks lie in xs and, backwards, in ys, into the sums: coefficient j of the product, unreduced,
-// is sum j. It answers false where 18 would be given, and that is nowhere.
-pub fn gather(s: Setting, a: &[u16], b: &[u16], xs: &[u64], ys: &[u64], sums: &mut [u64]) -> bool
-    requires { Gathering s a.now b.now xs.now ys.now sums.old }
-    ensures { (result ≡ true) × Sums a.now b.now sums.old sums.new }
+// is sum j. 18 would be given where a word overflows, and that is nowhere.
+pub fn gather(
+    s: Accepted,
+    a: &[u16],
+    b: &[u16],
+    xs: &[u64],
+    ys: &[u64],
+    sums: &mut [u64],
+) -> Result<(), Refusal>
+    requires { Gathering s.setting a.now b.now xs.now ys.now sums.old }
+    ensures { (result ≡ Ok tt) × Sums a.now b.now sums.old sums.new }
 {
-    let m = rounded_up(a.len(), s.k);
-    let n = rounded_up(b.len(), s.k);
-    let k = s.k as usize;
+    let m = rounded_up(a.len(), s.setting.k);
+    let n = rounded_up(b.len(), s.setting.k);
+    let k = s.setting.k as usize;
     let fit = products_that_fit(s);
-    let mut z = 0;
-    while z + 1 < m + n {
-        let start = excess(z + 1, n);
-        let count = least(z + COLUMNS, m) - start;
-        let fits = add_columns(s, fit, xs, ys, start, excess(n, z + 1), count, z * k, sums);
-        if !fits {
-            return false;
-        }
-        z += COLUMNS;
+    for z in (0..m + n - 1).step_by(COLUMNS) {
+        let start = (z + 1).saturating_sub(n);
+        let count = (z + COLUMNS).min(m) - start;
+        add_columns(
+            s,
+            fit,
+            xs,
+            ys,
+            start,
+            n.saturating_sub(z + 1),
+            count,
+            z * k,
+            sums,
+        )?;
     }
-    true
+    Ok(())
 }
 
 // The products of count words, from i in xs and from j in ys on, added to the sums from place at on: four columns, each of the others a word of
 // ys and k places further.
 fn add_columns(
-    s: Setting,
+    s: Accepted,
     fit: u64,
     xs: &[u64],
     ys: &[u64],
@@ -59,26 +72,24 @@ fn add_columns(
     count: usize,
     at: usize,
     sums: &mut [u64],
-) -> bool
-    requires { AddingColumns s xs.now ys.now i j count at sums.old × (s.n ≤ fit) }
-    ensures { (result ≡ true) × AddsColumns s xs.now ys.now i j count at sums.old sums.new }
+) -> Result<(), Refusal>
+    requires { AddingColumns s.setting xs.now ys.now i j count at sums.old × (s.setting.n ≤ fit) }
+    ensures { (result ≡ Ok tt) × AddsColumns s.setting xs.now ys.now i j count at sums.old sums.new }
 {
-    let most = batch_size(s.n);
-    let mut done = 0;
-    while done < count {
-        let more = least(most, count - done);
+    let most = batch_size(s.setting.n);
+    for done in (0..count).step_by(most) {
+        let more = most.min(count - done);
         if overflows(fit, more) {
-            return false;
+            return Err(Refusal::Overflow);
         }
         add_four_batches(s, xs, ys, i + done, j + done, more, at, sums);
-        done += more;
     }
-    true
+    Ok(())
 }
 
 // The same of one batch: four words, and each is split. Where k is a number that is known, the splitting is written out.
 fn add_four_batches(
-    s: Setting,
+    s: Accepted,
     xs: &[u64],
     ys: &[u64],
     i: usize,
@@ -87,17 +98,17 @@ fn add_four_batches(
     at: usize,
     sums: &mut [u64],
 )
-    requires { AddingColumns s xs.now ys.now i j count at sums.old × (count ≤ s.n) }
-    ensures { AddsColumns s xs.now ys.now i j count at sums.old sums.new }
+    requires { AddingColumns s.setting xs.now ys.now i j count at sums.old × (count ≤ s.setting.n) }
+    ensures { AddsColumns s.setting xs.now ys.now i j count at sums.old sums.new }
 {
     let words = batch(&xs[i..i + count], &ys[j..j + count + 3]);
-    let k = s.k;
-    match k {
-        1 => add_four_words(s.t, 1, words, at, sums),
-        2 => add_four_words(s.t, 2, words, at, sums),
-        3 => add_four_words(s.t, 3, words, at, sums),
-        4 => add_four_words(s.t, 4, words, at, sums),
-        _ => add_four_words(s.t, k, words, at, sums),
+    let t = s.setting.t;
+    match s.setting.k {
+        1 => add_four_words(t, 1, words, at, sums),
+        2 => add_four_words(t, 2, words, at, sums),
+        3 => add_four_words(t, 3, words, at, sums),
+        4 => add_four_words(t, 4, words, at, sums),
+        k => add_four_words(t, k, words, at, sums),
     }
 }
 
@@ -106,24 +117,21 @@ fn batch(xs: &[u64], ys: &[u64]) -> FourWords
     requires { Batching xs.now ys.now }
     ensures { BatchWords xs.now ys.now result.first result.second result.third result.fourth }
 {
-    let mut first = 0u64;
-    let mut second = 0u64;
-    let mut third = 0u64;
-    let mut fourth = 0u64;
-    let mut r = 0;
-    while r < xs.len() {
-        let x = xs[r];
-        first = add_product(first, x, ys[3 + r]);
-        second = add_product(second, x, ys[2 + r]);
-        third = add_product(third, x, ys[1 + r]);
-        fourth = add_product(fourth, x, ys[r]);
-        r += 1;
+    let mut first = 0;
+    let mut second = 0;
+    let mut third = 0;
+    let mut fourth = 0;
+    for (r, x) in xs.iter().enumerate() {
+        first = add_product(first, *x, ys[3 + r]);
+        second = add_product(second, *x, ys[2 + r]);
+        third = add_product(third, *x, ys[1 + r]);
+        fourth = add_product(fourth, *x, ys[r]);
     }
     FourWords {
-        first: first,
-        second: second,
-        third: third,
-        fourth: fourth,
+        first,
+        second,
+        third,
+        fourth,
     }
 }
 
@@ -140,7 +148,7 @@ fn add_four_words(t: u64, k: u64, words: FourWords, at: usize, sums: &mut [u64])
     requires { AddingWords t k words.first words.second words.third words.fourth at sums.old }
     ensures { AddsWords t k words.first words.second words.third words.fourth at sums.old sums.new }
 {
-    let m = places(k);
+    let m = (2 * k - 1) as usize;
     let step = k as usize;
     add_fields(t, m, words.first, at, sums);
     add_fields(t, m, words.second, at + step, sums);
@@ -153,13 +161,11 @@ fn add_fields(t: u64, m: usize, word: u64, at: usize, sums: &mut [u64])
     requires { (t < word_bits) × (at + m ≤ length sums.old) × (packed 1 sums.old + spread (2 ^ t) m 1 word < 2 ^ word_bits) }
     ensures { AddsWord t m word at sums.old sums.new }
 {
-    let q = power(t);
+    let q = 1u64 << t;
     let mut rest = word;
-    let mut i = 0;
-    while i < m {
-        sums[at + i] = sums[at + i] + rest % q;
-        rest = rest >> t;
-        i += 1;
+    for i in at..at + m {
+        sums[i] += rest % q;
+        rest >>= t;
     }
 }
 
@@ -168,10 +174,8 @@ pub fn write_remainders(p: u64, m: usize, sums: &[u64], out: &mut [u16])
     requires { (0 < p) × (p ≤ largest_modulus) × (m ≤ length sums.now) × (m ≤ length out.old) }
     ensures { out.new ≡ filled m (sum_residue p sums.now) out.old }
 {
-    let mut j = 0;
-    while j < m {
+    for j in 0..m {
         out[j] = (sums[j] % p) as u16;
-        j += 1;
     }
 }
 
@@ -181,14 +185,8 @@ fn batch_size(n: u64) -> usize
     ensures { (1 ≤ result) × (result ≤ n) }
 {
     if n < 4 {
-        return n as usize;
+        n as usize
+    } else {
+        (n - n % 4) as usize
     }
-    (n - n % 4) as usize
-}
-
-// x - y, and none below 0.
-fn excess(x: usize, y: usize) -> usize
-    ensures { result ≡ x - y }
-{
-    if y < x { x - y } else { 0 }
 }

@@ -3,16 +3,13 @@
 ghost use Rattle.std.specs.Prelude.{◌≡◌, ◌≤◌, ltb};
 ghost use Rattle.polynomials.specs.Places.{packed};
 ghost use Rattle.settings.specs.Settings.{base};
-ghost use Rattle.settings.specs.Bounds.{Bounds};
 ghost use Rattle.packed.specs.OverflowLaws.{largest};
 
-use crate::arithmetic::power;
-use settings::setting::Setting;
+use settings::accepted::Accepted;
 
 // How many products of the largest words fit one word.
-pub fn products_that_fit(s: Setting) -> u64
-    requires { Bounds s }
-    ensures { s.n ≤ result }
+pub fn products_that_fit(s: Accepted) -> u64
+    ensures { s.setting.n ≤ result }
 {
     let w = largest_word(s);
     u64::MAX / (w * w)
@@ -26,16 +23,13 @@ pub fn overflows(fit: u64, count: usize) -> bool
 }
 
 // The word of k coefficients p - 1.
-fn largest_word(s: Setting) -> u64
-    requires { Bounds s }
-    ensures { result ≡ packed (base s) (largest s) }
+fn largest_word(s: Accepted) -> u64
+    ensures { result ≡ packed (base s.setting) (largest s.setting) }
 {
-    let q = power(s.t);
-    let mut w = 0u64;
-    let mut i = 0u64;
-    while i < s.k {
-        w = w * q + (s.p - 1);
-        i += 1;
+    let q = s.base();
+    let mut w = 0;
+    for _ in 0..s.setting.k {
+        w = w * q + (s.setting.p - 1);
     }
     w
 }

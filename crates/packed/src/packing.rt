@@ -2,25 +2,21 @@
 ghost use Rattle.packed.specs.Packing.{Packs};
 
 use crate::arithmetic::pack_taken;
-use settings::answers::Packed;
 use settings::coefficients::first_bad;
-use settings::refusals;
-use settings::setting::{Checked, Setting, check};
+use settings::refusals::Refusal;
+use settings::setting::{Setting, check};
 
 // Exactly k coefficients: 9, 8. The word is the sum of a_i q^i.
-pub fn pack(s: Setting, coefficients: &[u16]) -> Packed
+#[tactic(auto, unfolding(crate::specs::Packing::pack_answer))]
+pub fn pack(s: Setting, coefficients: &[u16]) -> Result<u64, Refusal>
     ensures { Packs s coefficients.now result }
 {
-    if let Checked::Refused(r) = check(s) {
-        return Packed::Refused(r);
-    }
+    check(s)?;
     if coefficients.len() as u64 != s.k {
-        return Packed::Refused(refusals::SHAPE);
+        return Err(Refusal::Shape);
     }
-    let bad = first_bad(s.p, coefficients);
-    if bad < coefficients.len() {
-        return Packed::Refused(refusals::coefficient(bad));
+    if let Some(bad) = first_bad(s.p, coefficients) {
+        return Err(Refusal::Coefficient(bad));
     }
-    let word = pack_taken(s.p, s.t, coefficients);
-    Packed::Word(word)
+    Ok(pack_taken(s.p, s.t, coefficients))
 }

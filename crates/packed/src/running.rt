@@ -1,58 +1,45 @@
 // The running record: pairs of polynomials are fed in calls of any size, and closing gives the sum of their products.
-ghost use Rattle.std.specs.Prelude.{◌≡◌, false, ◌-◌, ◌*◌, ◌<◌};
+ghost use Rattle.std.specs.Prelude.{◌≡◌, ◌<◌};
+ghost use Rattle.settings.specs.Accepting.{Past};
 ghost use Rattle.settings.specs.Answers.{fine};
-ghost use Rattle.settings.specs.Settings.{setting_checks, checked_says};
-ghost use Rattle.settings.specs.Bounds.{Bounds};
-ghost use Rattle.packed.specs.Running.{record_cause, sum_cause, residue_most, residues_cause, fields_cause, field_most, pair_checks, close_checks, Freshens, Feeds, Closes};
+ghost use Rattle.settings.specs.Settings.{setting_checks, places};
+ghost use Rattle.packed.specs.Running.{record_cause, record_check, sum_cause, residue_most, residues_cause, fields_cause, field_most, pair_checks, close_checks, fed, Freshens, Feeds, Closes};
 
-use crate::arithmetic::{least, places, power, rounded_up, wide};
+use crate::arithmetic::rounded_up;
 use crate::batches::{add_pairs, add_residues};
+use settings::accepted::Accepted;
 use settings::coefficients::check_coefficients;
 use settings::limits::{MOST_PAIRS, RESIDUE_PLACES};
-use settings::refusals;
 use settings::refusals::Refusal;
-use settings::setting::{Checked, Setting, check};
+use settings::setting::{Setting, accept, check};
 use words::check_word;
 
 // What was added up: how many pairs, the word of the open batch, unreduced, and the residues of the full batches.
-#[derive(Clone, Copy)]
+#[derive(Clone, Copy, PartialEq, Eq)]
 pub struct Sum {
     pub total: u64,
     pub word: u64,
     pub residues: [u16; RESIDUE_PLACES],
 }
 
-#[derive(Clone, Copy)]
+#[derive(Clone, Copy, PartialEq, Eq)]
 pub struct Record {
     pub setting: Setting,
     pub sum: Sum,
 }
 
-// How many pairs a feed took.
-#[derive(Clone, Copy)]
-pub enum Counted {
-    Pairs(usize),
-    Refused(Refusal),
-}
-
-// How many reductions the sum took.
-#[derive(Clone, Copy)]
-pub enum Closed {
-    Reductions(u64),
-    Refused(Refusal),
-}
-
-// A record, and the answer beside it.
+// A fresh record, and beside it whether its setting is refused: there is a record in either case.
 #[derive(Clone, Copy)]
 pub struct Begun {
     pub running: Record,
-    pub answer: Checked,
+    pub answer: Result<(), Refusal>,
 }
 
+// A record, and how many pairs a feed took, or why none.
 #[derive(Clone, Copy)]
 pub struct Fed {
     pub running: Record,
-    pub answer: Counted,
+    pub answer: Result<usize, Refusal>,
 }
 
 // The setting's checks only. All but the setting is zero, also in what is handed back beside a refusal.
@@ -72,171 +59,129 @@ pub fn fresh(s: Setting) -> Begun
     }
 }
 
-// Two flat lists, k coefficients per polynomial: 12, 9, 13, 8, 18. A refusal hands the record back as it was.
+// Two flat lists, k coefficients per polynomial: 12, 9, 13, 8, 18. The answer is how many pairs were taken. A refusal hands the record back as it was.
 pub fn feed(running: Record, xs: &[u16], ys: &[u16]) -> Fed
     ensures { Feeds running xs.now ys.now result }
 {
-    if record_cause(running) {
-        return Fed {
-            running: running,
-            answer: Counted::Refused(refusals::RECORD),
-        };
-    }
-    if let Checked::Refused(r) = check_pairs(running, xs, ys) {
-        return Fed {
-            running: running,
-            answer: Counted::Refused(r),
-        };
-    }
-    let s = running.setting;
-    let sum = running.sum;
-    let added = add_pairs(s, sum, xs, ys);
-    if !added.fits {
-        return Fed {
-            running: running,
-            answer: Counted::Refused(refusals::OVERFLOW),
-        };
-    }
-    let fed = added.sum;
+    let mut after = running;
+    let answer = feed_into(&mut after, xs, ys);
     Fed {
-        running: Record {
-            setting: s,
-            sum: fed,
-        },
-        answer: Counted::Pairs(xs.len() / s.k as usize),
+        running: after,
+        answer,
     }
 }
 
-// The 2k-1 coefficients, (residue + field) mod p: 12, 10. The record may be fed further.
-pub fn close(running: Record, out: &mut [u16]) -> Closed
+// The same in place.
+fn feed_into(running: &mut Record, xs: &[u16], ys: &[u16]) -> Result<usize, Refusal>
+    ensures { Feeds running.old xs.now ys.now (fed running.new result) }
+{
+    let s = accept_pairs(*running, xs, ys)?;
+    running.sum = add_pairs(s, running.sum, xs, ys)?;
+    Ok(xs.len() / s.setting.k as usize)
+}
+
+// The 2k-1 coefficients, (residue + field) mod p: 12, 10. The answer is how many reductions the sum took. The record may be fed further.
+pub fn close(running: Record, out: &mut [u16]) -> Result<u64, Refusal>
     ensures { Closes running out.old result out.new }
 {
-    if let Checked::Refused(r) = check_close(running, out.len()) {
-        return Closed::Refused(r);
-    }
-    let s = running.setting;
+    let s = accept_close(running, out.len())?;
     let sum = running.sum;
-    let residues = sum.residues;
-    add_residues(s.p, s.t, places(s.k), sum.word, &residues, out);
-    Closed::Reductions(rounded_up(sum.total as usize, s.n) as u64)
+    add_residues(s, sum.word, &sum.residues, out);
+    Ok(rounded_up(sum.total as usize, s.setting.n) as u64)
 }
 
-// 9, 13, 8, for a coherent record. 12 comes first and feed asks it itself: the record then stays in memory across that call, where read earlier it
-// would hold registers that the loops of add_pairs need.
-fn check_pairs(running: Record, xs: &[u16], ys: &[u16]) -> Checked
-    requires { record_cause running ≡ false }
-    ensures { checked_says result ≡ pair_checks running xs.now ys.now }
+// 12, 9, 13, 8.
+#[tactic(auto, unfolding(crate::specs::Running::pair_checks))]
+fn accept_pairs(running: Record, xs: &[u16], ys: &[u16]) -> Result<Accepted, Refusal>
+    ensures { Past (pair_checks running xs.now ys.now) running.setting result }
 {
-    let s = running.setting;
-    if xs.len() != ys.len() {
-        return Checked::Refused(refusals::SHAPE);
+    let s = accept_record(running)?;
+    let k = s.setting.k;
+    if xs.len() != ys.len() || xs.len() as u64 % k != 0 {
+        return Err(Refusal::Shape);
     }
-    if xs.len() as u64 % s.k != 0 {
-        return Checked::Refused(refusals::SHAPE);
+    if MOST_PAIRS < running.sum.total + xs.len() as u64 / k {
+        return Err(Refusal::Full);
     }
-    let sum = running.sum;
-    if MOST_PAIRS < sum.total + xs.len() as u64 / s.k {
-        return Checked::Refused(refusals::FULL);
-    }
-    check_coefficients(s.p, xs, ys)
+    check_coefficients(s.setting.p, xs, ys)?;
+    Ok(s)
 }
 
 // 12, 10, where a list of len elements is lent for the coefficients.
-fn check_close(running: Record, len: usize) -> Checked
-    ensures { checked_says result ≡ close_checks running len }
+#[tactic(auto, unfolding(crate::specs::Running::close_checks))]
+fn accept_close(running: Record, len: usize) -> Result<Accepted, Refusal>
+    ensures { Past (close_checks running len) running.setting result }
 {
-    if record_cause(running) {
-        return Checked::Refused(refusals::RECORD);
+    let s = accept_record(running)?;
+    if len < s.places() {
+        return Err(Refusal::Short);
     }
-    let s = running.setting;
-    if len < places(s.k) {
-        return Checked::Refused(refusals::SHORT);
-    }
-    Checked::Accepted
+    Ok(s)
 }
 
-// 12 Record: one that is not coherent.
-fn record_cause(running: Record) -> bool
-    ensures { result ≡ record_cause running }
+// 12 Record: one that is not coherent. What refuses its setting is not told.
+#[tactic(auto, unfolding(crate::specs::Running::record_cause))]
+fn accept_record(running: Record) -> Result<Accepted, Refusal>
+    ensures { Past (record_check running) running.setting result }
 {
-    if let Checked::Refused(r) = check(running.setting) {
-        return true;
+    match accept(running.setting) {
+        Ok(s) if !sum_cause(s, running.sum) => Ok(s),
+        _ => Err(Refusal::Record),
     }
-    sum_cause(running.setting, running.sum)
 }
 
 // Its part that is not the setting's, which nothing refuses.
-fn sum_cause(s: Setting, sum: Sum) -> bool
-    requires { setting_checks s ≡ fine }
-    ensures { result ≡ sum_cause s sum }
+fn sum_cause(s: Accepted, sum: Sum) -> bool
+    requires { setting_checks s.setting ≡ fine }
+    ensures { result ≡ sum_cause s.setting sum }
 {
-    if MOST_PAIRS < sum.total {
-        return true;
-    }
-    let residues = sum.residues;
-    if residues_cause(s, &residues) {
-        return true;
-    }
-    if fields_cause(s, sum.total % s.n, sum.word) {
-        return true;
-    }
-    if let Checked::Refused(r) = check_word(s, sum.word) {
-        return true;
-    }
-    false
+    MOST_PAIRS < sum.total
+        || residues_cause(s, &sum.residues)
+        || fields_cause(s, sum.total % s.setting.n, sum.word)
+        || check_word(s.setting, sum.word).is_err()
 }
 
 // A residue of p or more, or one from index 2k-1 on that is not zero.
-fn residues_cause(s: Setting, residues: &[u16]) -> bool
-    requires { Bounds s }
-    ensures { result ≡ residues_cause s residues.now }
+fn residues_cause(s: Accepted, residues: &[u16]) -> bool
+    ensures { result ≡ residues_cause s.setting residues.now }
 {
-    let mut j = 0;
-    while j < residues.len() {
-        if residue_most(s, j) < wide(residues[j]) {
+    for (j, residue) in residues.iter().enumerate() {
+        if residue_most(s, j) < u64::from(*residue) {
             return true;
         }
-        j += 1;
     }
     false
 }
 
 // p-1, and 0 from index 2k-1 on.
-fn residue_most(s: Setting, j: usize) -> u64
-    requires { Bounds s }
-    ensures { result ≡ residue_most s j }
+fn residue_most(s: Accepted, j: usize) -> u64
+    ensures { result ≡ residue_most s.setting j }
 {
-    if j < places(s.k) {
-        return s.p - 1;
-    }
-    0
+    if j < s.places() { s.setting.p - 1 } else { 0 }
 }
 
 // A field above what pairs, fewer than a batch, can add up to.
-fn fields_cause(s: Setting, pairs: u64, word: u64) -> bool
-    requires { Bounds s × (pairs < s.n) }
-    ensures { result ≡ fields_cause s pairs word }
+fn fields_cause(s: Accepted, pairs: u64, word: u64) -> bool
+    requires { pairs < s.setting.n }
+    ensures { result ≡ fields_cause s.setting pairs word }
 {
-    let m = places(s.k);
-    let q = power(s.t);
+    let q = s.base();
     let mut rest = word;
-    let mut j = 0;
-    while j < m {
+    for j in 0..s.places() {
         if field_most(s, pairs, j) < rest % q {
             return true;
         }
-        rest = rest >> s.t;
-        j += 1;
+        rest >>= s.setting.t;
     }
     false
 }
 
 // r min(j+1, 2k-1-j) (p-1)^2, for r pairs.
-fn field_most(s: Setting, pairs: u64, j: usize) -> u64
-    requires { Bounds s × (pairs < s.n) × (j < 2 * s.k - 1) }
-    ensures { result ≡ field_most s pairs j }
+fn field_most(s: Accepted, pairs: u64, j: usize) -> u64
+    requires { (pairs < s.setting.n) × (j < places s.setting) }
+    ensures { result ≡ field_most s.setting pairs j }
 {
-    let m = s.p - 1;
-    let products = least(j + 1, places(s.k) - j) as u64;
+    let m = s.setting.p - 1;
+    let products = (j + 1).min(s.places() - j) as u64;
     pairs * (products * (m * m))
 }

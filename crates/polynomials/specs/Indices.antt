@@ -7,9 +7,10 @@
 --     first test n i    the first of the n numbers i, i + 1, .. at which the test holds, and i + n where it holds at none
 --     First             that a number is that one, without saying how it is found
 --     some test n       the test holds at one of the numbers 0, .., n - 1
+--     found i n         an index i below n, as an option: none where it is n or more
 --     above f most i    f i is above most i
 --     exceeds n f most  so it is at one of the numbers 0, .., n - 1
-use Rattle.std.specs.Prelude.{ℕ, zero, suc, ◌+◌, ◌-◌, ◌/◌, ◌≤◌, ◌<◌, ◌≡◌, Bool, true, false, List, [], ◌∷◌, ◌++◌, ltb, drop}
+use Rattle.std.specs.Prelude.{ℕ, zero, suc, ◌+◌, ◌-◌, ◌/◌, ◌≤◌, ◌<◌, ◌≡◌, Bool, true, false, List, [], ◌∷◌, ◌++◌, ltb, drop, Option, Some, None}
 
 abbrev pub pick : {A : Type 0} → Bool → A → A → A
 pick true x y = x
@@ -41,6 +42,9 @@ pub record First (test : ℕ → Bool) (n i r : ℕ) : Type 0 where
 
 abbrev pub some : (ℕ → Bool) → ℕ → Bool
 some test n = ltb (first test n 0) n
+
+abbrev pub found : ℕ → ℕ → Option ℕ
+found i n = pick (ltb i n) (Some i) None
 
 abbrev pub above : (ℕ → ℕ) → (ℕ → ℕ) → ℕ → Bool
 above f most i = ltb (most i) (f i)

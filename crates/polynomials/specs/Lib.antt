@@ -6,6 +6,7 @@ pub mod Places
 pub mod Blocks
 pub mod Pairs
 pub mod IndexLaws
+pub mod SearchLaws
 pub mod ListLaws
 pub mod BoundLaws
 pub mod PlaceLaws

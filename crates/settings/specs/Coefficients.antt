@@ -1,7 +1,7 @@
 -- The coefficients that a call is given, and 8. Definitions, and what passing the check says.
 --     too_large p xs i           coefficient i is p or more
 --     first_bad p xs             the first such index, and the length where there is none
---     FindsBad p xs r           the promise of first_bad: r is that index; first-bad-once: it allows one number only
+--     FindsBad p xs r           the promise of first_bad: r is that index, or none; first-bad-once: it allows one answer only
 --     first_bad_of_two p xs ys     the first list is searched first, and an index in the second has the first's length added
 --     coefficient_check p xs, coefficients_check p xs ys
 --                               8 with that place, for one list and for two
@@ -14,18 +14,18 @@
 --     NoneAbove most xs         no coefficient is above most
 --     none-above-more, none-above-all
 --                               a loop that looks for the largest: its turn, and its end
-use Rattle.std.specs.Prelude.{ℕ, ◌+◌, ◌≤◌, ◌<◌, ◌≡◌, refl, Bool, true, false, List, [], ◌∷◌, ◌↔◌, leb, ltb, length}
+use Rattle.std.specs.Prelude.{ℕ, ◌+◌, ◌≤◌, ◌<◌, ◌≡◌, refl, Bool, true, false, List, [], ◌∷◌, ◌↔◌, leb, ltb, length, Option, Result}
 use Rattle.std.proofs.Common.{zero-le, sym, ◌∙◌, le_trans, arith, leb-false, le-ltb, ltb-true, ltb-false}
 use Rattle.std.proofs.Math.Decide.{dec_lt}
 use Rattle.std.proofs.lemmas.Bool.{lt-leb}
-use Rattle.polynomials.specs.Indices.{pick, first, some}
+use Rattle.polynomials.specs.Indices.{pick, first, found, some}
 use Rattle.polynomials.specs.IndexLaws.{first-none}
 use Rattle.polynomials.specs.Lists.{coefficient, Below}
 use Rattle.polynomials.specs.ListLaws.{coefficient-past}
 use Rattle.settings.specs.Answers.{Verdict, fine, refuse, Given}
 use Rattle.settings.specs.AnswerLaws.{passed-last, given-check}
-use Rattle.settings.specs.Settings.{checked_says, checked-once}
-use Rattle.settings.specs.declared.setting.Checked.{Checked}
+use Rattle.settings.specs.Refusals.{says, says-once}
+use Rattle.settings.specs.declared.refusals.Refusal.{Refusal}
 
 abbrev pub too_large : ℕ → List ℕ → ℕ → Bool
 too_large p xs i = leb p (coefficient xs i)
@@ -33,10 +33,10 @@ too_large p xs i = leb p (coefficient xs i)
 abbrev pub first_bad : ℕ → List ℕ → ℕ
 first_bad p xs = first (too_large p xs) (length xs) 0
 
-abbrev pub FindsBad : ℕ → List ℕ → ℕ → Type 0
-FindsBad p xs r = r ≡ first_bad p xs
+abbrev pub FindsBad : ℕ → List ℕ → Option ℕ → Type 0
+FindsBad p xs r = r ≡ found (first_bad p xs) (length xs)
 
-pub first-bad-once : (p : ℕ) (xs : List ℕ) (a b : ℕ) → FindsBad p xs a → FindsBad p xs b → a ≡ b
+pub first-bad-once : (p : ℕ) (xs : List ℕ) (a b : Option ℕ) → FindsBad p xs a → FindsBad p xs b → a ≡ b
 first-bad-once p xs a b ha hb = ha ∙ sym hb
 
 pub record NoneAbove (most : ℕ) (xs : List ℕ) : Type 0 where
@@ -72,11 +72,11 @@ coefficient-gives p xs = given-check (some (too_large p xs) (length xs)) 8 (firs
 pub coefficients-gives : (p : ℕ) (xs ys : List ℕ) → Given (8 ∷ []) (coefficients_check p xs ys)
 coefficients-gives p xs ys = given-check (ltb (first_bad_of_two p xs ys) (length xs + length ys)) 8 (first_bad_of_two p xs ys)
 
-abbrev pub ChecksCoefficients : ℕ → List ℕ → List ℕ → Checked → Type 0
-ChecksCoefficients p xs ys r = checked_says r ≡ coefficients_check p xs ys
+abbrev pub ChecksCoefficients : ℕ → List ℕ → List ℕ → Result (Unit {0}) Refusal → Type 0
+ChecksCoefficients p xs ys r = says r ≡ coefficients_check p xs ys
 
-pub check-coefficients-once : (p : ℕ) (xs ys : List ℕ) (a b : Checked) → ChecksCoefficients p xs ys a → ChecksCoefficients p xs ys b → a ≡ b
-check-coefficients-once p xs ys a b = checked-once a b (coefficients_check p xs ys)
+pub check-coefficients-once : (p : ℕ) (xs ys : List ℕ) (a b : Result (Unit {0}) Refusal) → ChecksCoefficients p xs ys a → ChecksCoefficients p xs ys b → a ≡ b
+check-coefficients-once p xs ys a b = says-once a b (coefficients_check p xs ys)
 
 -- no index is bad exactly where every coefficient is below p, also the zeros past the end
 none-bad : (p : ℕ) (xs : List ℕ) → 0 < p → (length xs ≤ first_bad p xs) ↔ Below p xs

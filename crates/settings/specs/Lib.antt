@@ -11,3 +11,4 @@ pub mod SettingLaws
 pub mod CoefficientLaws
 pub mod ChoiceLaws
 pub mod Bounds
+pub mod Accepting

@@ -15,16 +15,14 @@
 --     places s          2k-1, the fields of a product
 --     InChoice p k n    what 1 to 3 leave
 --     InRange s         what 1 to 4 leave
---     checked_says       the number and place that each case of check's answer stands for; checked_of, the way back
---     checked-once      one acceptance, or one refusal
 --     Checks s r        the promise of check; check-once: it allows one answer only
-use Rattle.std.specs.Prelude.{ℕ, ◌-◌, ◌*◌, ◌^◌, ◌≤◌, ◌≡◌, refl, Bool, ◌||◌, List, [], ◌∷◌, ltb, leb}
+use Rattle.std.specs.Prelude.{ℕ, ◌-◌, ◌*◌, ◌^◌, ◌≤◌, ◌≡◌, Bool, ◌||◌, List, [], ◌∷◌, ltb, leb, Result}
 use Rattle.settings.specs.Limits.{largest_modulus, most_coefficients, largest_batch, widest, word_bits}
-use Rattle.settings.specs.Answers.{answered, refused, Verdict, fine, refuse, ◌and_then◌, Given}
-use Rattle.settings.specs.AnswerLaws.{once, given-check, given-then}
+use Rattle.settings.specs.Answers.{Verdict, refuse, ◌and_then◌, Given}
+use Rattle.settings.specs.AnswerLaws.{given-check, given-then}
+use Rattle.settings.specs.Refusals.{says, says-once}
+use Rattle.settings.specs.declared.refusals.Refusal.{Refusal}
 use Rattle.settings.specs.declared.setting.Setting.{Setting}
-use Rattle.settings.specs.declared.setting.Checked.{Checked}
-use Rattle.settings.specs.declared.setting.Checked.TheVariants.{Accepted, Refused}
 
 abbrev pub setting_of : ℕ → ℕ → ℕ → ℕ → Setting
 setting_of p k t n = record { p = p; k = k; t = t; n = n }
@@ -96,23 +94,8 @@ pub record InRange (s : Setting) : Type 0 where
   pub t_low : 1 ≤ s.t
   pub t_high : s.t ≤ widest
 
-abbrev pub checked_says : Checked → Verdict
-checked_says Accepted = fine
-checked_says (Refused r) = refused r.number r.place
+abbrev pub Checks : Setting → Result (Unit {0}) Refusal → Type 0
+Checks s r = says r ≡ setting_checks s
 
-abbrev pub Checks : Setting → Checked → Type 0
-Checks s r = checked_says r ≡ setting_checks s
-
-abbrev pub checked_of : Verdict → Checked
-checked_of (answered u) = Accepted
-checked_of (refused number place) = Refused (record { number = number; place = place })
-
-checked-back : (r : Checked) → checked_of (checked_says r) ≡ r
-checked-back Accepted = refl
-checked-back (Refused r) = refl
-
-pub checked-once : (a b : Checked) (v : Verdict) → checked_says a ≡ v → checked_says b ≡ v → a ≡ b
-checked-once = once checked_says checked_of checked-back
-
-pub check-once : (s : Setting) (a b : Checked) → Checks s a → Checks s b → a ≡ b
-check-once s a b = checked-once a b (setting_checks s)
+pub check-once : (s : Setting) (a b : Result (Unit {0}) Refusal) → Checks s a → Checks s b → a ≡ b
+check-once s a b = says-once a b (setting_checks s)

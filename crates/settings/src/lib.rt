@@ -1,9 +1,8 @@
-// What every call is given, and what it answers: the setting with its limits and checks, coefficients, refusals by number, shared answers.
+// What every call is given, and what it answers: the setting with its limits and checks, coefficients, refusals by number.
 #![tactic(auto)]
 
-pub mod answers;
+pub mod accepted;
 pub mod coefficients;
 pub mod limits;
-pub mod numbers;
 pub mod refusals;
 pub mod setting;

@@ -1,120 +1,90 @@
-// Document 01's refusals under their names. A cause that has no index of its own has the place 0.
-ghost use Rattle.settings.specs.Refusals.{RefusesAt};
-
-use crate::numbers;
+// The refusals under their names: each has a number, and a place, which is the index of what is bad, and 0 where a cause has no index of its own.
+ghost use Rattle.std.specs.Prelude.{◌≡◌};
+ghost use Rattle.settings.specs.Refusals.{number_of, place_of, Tells};
 
 #[derive(Clone, Copy)]
-pub struct Refusal {
+pub enum Refusal {
+    Modulus,
+    Length,
+    Batch,
+    Width,
+    Narrow,
+    Room,
+    None,
+    // The index of the first bad coefficient.
+    Coefficient(usize),
+    Shape,
+    Short,
+    // The index of the first bad word of a list, and 0 of a word alone.
+    Word(usize),
+    Record,
+    Full,
+    NoTable,
+    // The first byte that differs, or where the buffer ends.
+    Stale(usize),
+    Lane,
+    Job,
+    Overflow,
+    // Of labels.
+    Level,
+    Few,
+    Many,
+}
+
+impl Refusal {
+    // Each number stands here once.
+    pub fn number(self) -> u64
+        ensures { result ≡ number_of self }
+    {
+        match self {
+            Refusal::Modulus => 1,
+            Refusal::Length => 2,
+            Refusal::Batch => 3,
+            Refusal::Width => 4,
+            Refusal::Narrow => 5,
+            Refusal::Room => 6,
+            Refusal::None => 7,
+            Refusal::Coefficient(_) => 8,
+            Refusal::Shape => 9,
+            Refusal::Short => 10,
+            Refusal::Word(_) => 11,
+            Refusal::Record => 12,
+            Refusal::Full => 13,
+            Refusal::NoTable => 14,
+            Refusal::Stale(_) => 15,
+            Refusal::Lane => 16,
+            Refusal::Job => 17,
+            Refusal::Overflow => 18,
+            Refusal::Level => 19,
+            Refusal::Few => 20,
+            Refusal::Many => 21,
+        }
+    }
+
+    pub fn place(self) -> u64
+        ensures { result ≡ place_of self }
+    {
+        match self {
+            Refusal::Coefficient(i) | Refusal::Word(i) | Refusal::Stale(i) => i as u64,
+            _ => 0,
+        }
+    }
+}
+
+// A refusal in numbers: any two, as a line and a job's state have them.
+#[derive(Clone, Copy)]
+pub struct Numbered {
     pub number: u64,
     pub place: u64,
 }
 
-pub const MODULUS: Refusal = Refusal {
-    number: numbers::MODULUS,
-    place: 0,
-};
+impl From<Refusal> for Numbered {
+    ghost from_gives = { λ why r. Tells why r };
 
-pub const LENGTH: Refusal = Refusal {
-    number: numbers::LENGTH,
-    place: 0,
-};
-
-pub const BATCH: Refusal = Refusal {
-    number: numbers::BATCH,
-    place: 0,
-};
-
-pub const WIDTH: Refusal = Refusal {
-    number: numbers::WIDTH,
-    place: 0,
-};
-
-pub const NARROW: Refusal = Refusal {
-    number: numbers::NARROW,
-    place: 0,
-};
-
-pub const ROOM: Refusal = Refusal {
-    number: numbers::ROOM,
-    place: 0,
-};
-
-pub const NONE: Refusal = Refusal {
-    number: numbers::NONE,
-    place: 0,
-};
-
-pub const SHAPE: Refusal = Refusal {
-    number: numbers::SHAPE,
-    place: 0,
-};
-
-pub const SHORT: Refusal = Refusal {
-    number: numbers::SHORT,
-    place: 0,
-};
-
-pub const WORD: Refusal = Refusal {
-    number: numbers::WORD,
-    place: 0,
-};
-
-pub const RECORD: Refusal = Refusal {
-    number: numbers::RECORD,
-    place: 0,
-};
-
-pub const FULL: Refusal = Refusal {
-    number: numbers::FULL,
-    place: 0,
-};
-
-pub const NO_TABLE: Refusal = Refusal {
-    number: numbers::NO_TABLE,
-    place: 0,
-};
-
-pub const LANE: Refusal = Refusal {
-    number: numbers::LANE,
-    place: 0,
-};
-
-pub const JOB: Refusal = Refusal {
-    number: numbers::JOB,
-    place: 0,
-};
-
-pub const OVERFLOW: Refusal = Refusal {
-    number: numbers::OVERFLOW,
-    place: 0,
-};
-
-// 8 Coefficient, at the first bad index.
-pub fn coefficient(place: usize) -> Refusal
-    ensures { RefusesAt 8 place result }
-{
-    Refusal {
-        number: numbers::COEFFICIENT,
-        place: place as u64,
-    }
-}
-
-// 11 Word, where the words stand in a list: at the first bad index.
-pub fn word_at(place: usize) -> Refusal
-    ensures { RefusesAt 11 place result }
-{
-    Refusal {
-        number: numbers::WORD,
-        place: place as u64,
-    }
-}
-
-// 15 Stale, at the first differing byte, or where the buffer ends.
-pub fn stale(place: usize) -> Refusal
-    ensures { RefusesAt 15 place result }
-{
-    Refusal {
-        number: numbers::STALE,
-        place: place as u64,
+    fn from(why: Refusal) -> Numbered {
+        Numbered {
+            number: why.number(),
+            place: why.place(),
+        }
     }
 }

@@ -5,7 +5,7 @@
 --     by-table-checked     and it refuses nothing exactly there
 --     by-table-reduces     where reduce by table answers, it has written one word for each word, and each is what reduce answers
 --     by-table-answers     where reduce answers every word, the table fits and the list lent is long enough, reduce by table answers too
-use Rattle.std.specs.Prelude.{ℕ, ◌≤◌, ◌<◌, ◌≡◌, refl, true, false, not, List, ◌↔◌, length, drop}
+use Rattle.std.specs.Prelude.{ℕ, ◌≤◌, ◌<◌, ◌≡◌, refl, true, false, not, List, ◌↔◌, length, drop, Result, Ok}
 use Rattle.std.proofs.Common.{sym, ap, ◌∙◌, le-ltb, ltb-false}
 use Rattle.std.proofs.Math.ListN.{get_or-append}
 use Rattle.std.proofs.lemmas.Bool.{not-false}
@@ -15,23 +15,22 @@ use Rattle.polynomials.specs.Lists.{coefficient}
 use Rattle.layout.specs.Beginnings.{first_difference}
 use Rattle.settings.specs.Answers.{fine, refused}
 use Rattle.settings.specs.AnswerLaws.{passed, passed_first, passed-last}
-use Rattle.settings.specs.SharedAnswers.{wrote_says, short_cause, writes-once, writes-filled}
+use Rattle.settings.specs.SharedAnswers.{short_cause, writes-once, writes-filled}
 use Rattle.settings.specs.Settings.{setting_checks}
 use Rattle.words.specs.Places.{word_cause, word_checks, reduce_answer, Reduces}
 use Rattle.words.specs.WordLaws.{words-check}
 use Rattle.tables.specs.Tables.{table, fits, table_checks, by_table_checks, reduced_word_at, reduced_words, ReducesByTable}
 use Rattle.tables.specs.FitLaws.{table-accepted}
 use Rattle.settings.specs.declared.setting.Setting.{Setting}
-use Rattle.settings.specs.declared.answers.Packed.TheVariants.{Word}
-use Rattle.settings.specs.declared.answers.Wrote.{Wrote}
-use Rattle.settings.specs.declared.answers.Wrote.TheVariants.{Count}
+use Rattle.settings.specs.Refusals.{says}
+use Rattle.settings.specs.declared.refusals.Refusal.{Refusal}
 
 pub stale-checks : (s : Setting) (buf ws : List ℕ) (len : ℕ) → table_checks s ≡ fine → fits s buf ≡ false → by_table_checks s buf ws len ≡ refused 15 (first_difference buf (table s.p s.t))
 unfolding by_table_checks
 stale-checks s buf ws len checked parted = rw (checked, parted)
 
-pub stale-refused : (s : Setting) (buf ws old after : List ℕ) (r : Wrote) → table_checks s ≡ fine → fits s buf ≡ false → ReducesByTable s buf ws old r after
-    → (wrote_says r ≡ refused 15 (first_difference buf (table s.p s.t))) × (after ≡ old)
+pub stale-refused : (s : Setting) (buf ws old after : List ℕ) (r : Result ℕ Refusal) → table_checks s ≡ fine → fits s buf ≡ false → ReducesByTable s buf ws old r after
+    → (says r ≡ refused 15 (first_difference buf (table s.p s.t))) × (after ≡ old)
 stale-refused s buf ws old after r checked parted e =
     let checks = stale-checks s buf ws (length old) checked parted in
     (e.0 ∙ rw checks, e.1 ∙ rw checks)
@@ -52,8 +51,8 @@ by-table-checked s buf ws len = (
   λ h. rw (h.tabled, h.fit, le-ltb len (length ws) h.room, (words-check s ws).1 h.words),
 )
 
-pub by-table-reduces : (s : Setting) (buf ws old after : List ℕ) (m : ℕ) → ReducesByTable s buf ws old (Count m) after
-    → (m ≡ length ws) × ((i : ℕ) → i < length ws → Reduces s (coefficient ws i) (Word (coefficient after i)))
+pub by-table-reduces : (s : Setting) (buf ws old after : List ℕ) (m : ℕ) → ReducesByTable s buf ws old (Ok m) after
+    → (m ≡ length ws) × ((i : ℕ) → i < length ws → Reduces s (coefficient ws i) (Ok (coefficient after i)))
 unfolding reduce_answer word_checks
 by-table-reduces s buf ws old after m e =
     let checks = by_table_checks s buf ws (length old) in
@@ -68,12 +67,12 @@ by-table-reduces s buf ws old after m e =
           rw (accepted, h.words i l, at),
     )
 
-pub by-table-answers : (s : Setting) (buf ws old after : List ℕ) (r : Wrote) (vs : ℕ → ℕ) → table_checks s ≡ fine → fits s buf ≡ true → length ws ≤ length old
-    → ((i : ℕ) → i < length ws → Reduces s (coefficient ws i) (Word (vs i))) → ReducesByTable s buf ws old r after → r ≡ Count (length ws)
+pub by-table-answers : (s : Setting) (buf ws old after : List ℕ) (r : Result ℕ Refusal) (vs : ℕ → ℕ) → table_checks s ≡ fine → fits s buf ≡ true → length ws ≤ length old
+    → ((i : ℕ) → i < length ws → Reduces s (coefficient ws i) (Ok (vs i))) → ReducesByTable s buf ws old r after → r ≡ Ok (length ws)
 unfolding reduce_answer word_checks
 by-table-answers s buf ws old after r vs tabled fit room answers e =
     let checks = by_table_checks s buf ws (length old) in
     let words : (i : ℕ) → i < length ws → word_cause s (coefficient ws i) ≡ false = λ i l. passed-last (word_cause s (coefficient ws i)) 11 0 (passed_first (setting_checks s) _ tt (passed_first (word_checks s (coefficient ws i)) _ (vs i) (sym (answers i l))).0).1 in
     let none-refused : checks ≡ fine = (by-table-checked s buf ws (length old)).1 (record { tabled = tabled; fit = fit; room = room; words = words }) in
     let done = filled (length ws) (reduced_word_at s ws) old in
-    (writes-once checks (reduced_words s ws) old r (Count (length ws)) after done e (writes-filled checks (length ws) (reduced_word_at s ws) old done none-refused refl)).0
+    (writes-once checks (reduced_words s ws) old r (Ok (length ws)) after done e (writes-filled checks (length ws) (reduced_word_at s ws) old done none-refused refl)).0

@@ -4,6 +4,8 @@
 --     table-checked               and then that holds
 --     table-range                 p and t are then in the range that a table's bytes have
 --     fits-through, fits-parted   a search for the first difference tells whether a buffer fits: it is through, or it has found one
+--     fits-searched, fits-none    as an option, that first difference is none exactly where a buffer fits
+--     stale-found                 and where there is one, it is the place of 15
 --     PartsAt buf bs i            the buffer starts as the bytes do, up to place i, where it has ended or has another byte
 --     stale-exactly               15 has the place i exactly where the buffer parts from the table there
 --     fits-size                   a buffer that fits is long enough
@@ -12,11 +14,13 @@
 --     fits-header                 its first bytes are the header
 --     fits-changed                a buffer that differs from the table in one of its bytes never fits
 --     fits-only                   a buffer fits for one p and one t only, also where the entries of another table are the same
-use Rattle.std.specs.Prelude.{ℕ, suc, ◌+◌, ◌-◌, ◌*◌, ◌≤◌, ◌<◌, ◌≡◌, refl, Bool, true, false, not, List, ◌++◌, ◌↔◌, leb, ltb, length, take, drop}
-use Rattle.std.proofs.Common.{zero-le, sym, ap, ◌∙◌, true≢false, mod-lt, arith, length-take, take-add, take_at, take-take, drop_at, get_or-take, get_or-drop, length-take-le, le-leb, lt-ltb, le-ltb, ltb-false}
+use Rattle.std.specs.Prelude.{ℕ, suc, ◌+◌, ◌-◌, ◌*◌, ◌≤◌, ◌<◌, ◌≡◌, refl, Bool, true, false, not, List, ◌++◌, ◌↔◌, leb, ltb, length, take, drop, Option, Some, None}
+use Rattle.std.proofs.Common.{zero-le, sym, ap, ◌∙◌, true≢false, mod-lt, arith, length-take, take-add, take_at, take-take, drop_at, get_or-take, get_or-drop, length-take-le, le-leb, lt-ltb, le-ltb, ltb-true, ltb-false}
+use Rattle.std.specs.Option.{is_some}
 use Rattle.std.proofs.Math.Decide.{dec_lt}
 use Rattle.std.proofs.lemmas.Bool.{lt-leb}
-use Rattle.polynomials.specs.Indices.{First, some}
+use Rattle.std.proofs.lemmas.Option.{none-some}
+use Rattle.polynomials.specs.Indices.{pick, found, First, some}
 use Rattle.polynomials.specs.Lists.{coefficient}
 use Rattle.polynomials.specs.Places.{shifted, reduced}
 use Rattle.polynomials.specs.TableLaws.{table-place, looked-up}
@@ -99,6 +103,27 @@ module _ (s : Setting) (buf : List ℕ) where
   pub fits-parted : (size d : ℕ) → size ≡ table_size s.p → d ≡ first_difference buf (table s.p s.t) → d < size → fits s buf ≡ false
   fits-parted size d is found h =
       starts-with-first buf (table s.p s.t) ∙ lt-leb (length (table s.p s.t)) (first_difference buf (table s.p s.t)) (omega (arith, table-length s.p s.t))
+
+  pub fits-searched : (r : Option ℕ) → r ≡ found (first_difference buf (table s.p s.t)) (table_size s.p) → fits s buf ≡ not (is_some r)
+  fits-searched r e = rw e (go (dec_lt (first_difference buf (table s.p s.t)) (table_size s.p)))
+    where
+      go : Dec (first_difference buf (table s.p s.t) < table_size s.p) → fits s buf ≡ not (is_some (found (first_difference buf (table s.p s.t)) (table_size s.p)))
+      go (yes h) = rw (lt-ltb (first_difference buf (table s.p s.t)) (table_size s.p) h, fits-parted (table_size s.p) (first_difference buf (table s.p s.t)) refl refl h)
+      go (no h) =
+          let through : table_size s.p ≤ first_difference buf (table s.p s.t) = omega arith in
+          rw (le-ltb (first_difference buf (table s.p s.t)) (table_size s.p) through, fits-through (table_size s.p) (first_difference buf (table s.p s.t)) refl refl through)
+
+  pub fits-none : None ≡ found (first_difference buf (table s.p s.t)) (table_size s.p) → fits s buf ≡ true
+  fits-none e = fits-searched None e
+
+  pub stale-found : (i : ℕ) → Some i ≡ found (first_difference buf (table s.p s.t)) (table_size s.p) → stale_check s buf ≡ refused 15 i
+  stale-found i e = go (ltb (first_difference buf (table s.p s.t)) (table_size s.p)) refl e
+    where
+      go : (b : Bool) → ltb (first_difference buf (table s.p s.t)) (table_size s.p) ≡ b → Some i ≡ pick b (Some (first_difference buf (table s.p s.t))) None → stale_check s buf ≡ refused 15 i
+      go true l h =
+          let same : i ≡ first_difference buf (table s.p s.t) = cc in
+          rw (fits-parted (table_size s.p) (first_difference buf (table s.p s.t)) refl refl (ltb-true (first_difference buf (table s.p s.t)) (table_size s.p) l), same)
+      go false l h = absurd (none-some i (sym h))
 
   -- what a buffer that fits starts with
   whole : fits s buf ≡ true → take (table_size s.p) buf ≡ header s.p s.t ++ entries s.p s.t

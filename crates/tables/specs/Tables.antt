@@ -20,7 +20,7 @@
 --     Picks s a b r              the promise of pick, for two buffers and the part handed back: what it holds and where it lies
 --     build-once, reduce-by-table-once, pick-once
 --                                each promise allows one answer and one buffer only; pick's, one content at one place
-use Rattle.std.specs.Prelude.{ℕ, ◌+◌, ◌*◌, ◌^◌, ◌≡◌, Bool, true, false, not, List, [], ◌∷◌, ◌++◌, ltb, length}
+use Rattle.std.specs.Prelude.{ℕ, ◌+◌, ◌*◌, ◌^◌, ◌≡◌, Bool, true, false, not, List, [], ◌∷◌, ◌++◌, ltb, length, Result}
 use Rattle.std.proofs.Common.{sym, ◌∙◌}
 use Rattle.std.specs.Borrow.{Bor}
 use Rattle.polynomials.specs.Indices.{upto, some}
@@ -35,7 +35,7 @@ use Rattle.settings.specs.SharedAnswers.{short_cause, Writes, writes-once}
 use Rattle.settings.specs.Settings.{setting_checks, setting_numbers, setting-gives}
 use Rattle.words.specs.Places.{bad_word, first_bad_word, words_check, reduced_word}
 use Rattle.settings.specs.declared.setting.Setting.{Setting}
-use Rattle.settings.specs.declared.answers.Wrote.{Wrote}
+use Rattle.settings.specs.declared.refusals.Refusal.{Refusal}
 
 -- ---- the bytes
 
@@ -85,10 +85,10 @@ pub build-gives : (s : Setting) (len : ℕ) → Given (setting_numbers ++ (14 �
 unfolding build_checks
 build-gives s len = given-then (table-gives s) (given-check (short_cause (table_size s.p) len) 10 0)
 
-abbrev pub Builds : Setting → List ℕ → Wrote → List ℕ → Type 0
+abbrev pub Builds : Setting → List ℕ → Result ℕ Refusal → List ℕ → Type 0
 Builds s old r after = Writes (build_checks s (length old)) (table s.p s.t) old r after
 
-pub build-once : (s : Setting) (old : List ℕ) (a b : Wrote) (x y : List ℕ) → Builds s old a x → Builds s old b y → (a ≡ b) × (x ≡ y)
+pub build-once : (s : Setting) (old : List ℕ) (a b : Result ℕ Refusal) (x y : List ℕ) → Builds s old a x → Builds s old b y → (a ≡ b) × (x ≡ y)
 build-once s old = writes-once (build_checks s (length old)) (table s.p s.t) old
 
 -- ---- reduce by table
@@ -113,10 +113,10 @@ reduced_word_at s ws i = reduced_word s (coefficient ws i)
 abbrev pub reduced_words : Setting → List ℕ → List ℕ
 reduced_words s ws = upto (length ws) (reduced_word_at s ws)
 
-abbrev pub ReducesByTable : Setting → List ℕ → List ℕ → List ℕ → Wrote → List ℕ → Type 0
+abbrev pub ReducesByTable : Setting → List ℕ → List ℕ → List ℕ → Result ℕ Refusal → List ℕ → Type 0
 ReducesByTable s buf ws old r after = Writes (by_table_checks s buf ws (length old)) (reduced_words s ws) old r after
 
-pub reduce-by-table-once : (s : Setting) (buf ws old : List ℕ) (a b : Wrote) (x y : List ℕ) → ReducesByTable s buf ws old a x → ReducesByTable s buf ws old b y
+pub reduce-by-table-once : (s : Setting) (buf ws old : List ℕ) (a b : Result ℕ Refusal) (x y : List ℕ) → ReducesByTable s buf ws old a x → ReducesByTable s buf ws old b y
     → (a ≡ b) × (x ≡ y)
 reduce-by-table-once s buf ws old = writes-once (by_table_checks s buf ws (length old)) (reduced_words s ws) old
 

@@ -1,84 +1,81 @@
 // The correction table: build, reduce by table, pick.
 #![tactic(auto)]
 
-ghost use Rattle.std.specs.Prelude.{◌≡◌};
-ghost use Rattle.settings.specs.Settings.{checked_says};
-ghost use Rattle.tables.specs.Tables.{table_checks, Builds, ReducesByTable, Picks};
+ghost use Rattle.tables.specs.Admitting.{Admits};
+ghost use Rattle.tables.specs.Tables.{Builds, ReducesByTable, Picks};
 
 mod entries;
+mod table_setting;
 
-use crate::entries::{HEADER_SIZE, first_difference, reduce_words, table_size, write_table};
-use settings::answers::Wrote;
+use crate::entries::HEADER_SIZE;
+use crate::table_setting::TableSetting;
 use settings::limits::LARGEST_TABLE_MODULUS;
-use settings::refusals;
-use settings::setting::{Checked, Setting, check};
+use settings::refusals::Refusal;
+use settings::setting::{Setting, accept};
 use words::check_words;
 
 // The table of the setting's p and t, 8 + p^2 bytes: 14, 10.
-pub fn build(s: Setting, out: &mut [u8]) -> Wrote
+#[tactic(auto, unfolding(crate::specs::Tables::build_checks))]
+pub fn build(s: Setting, out: &mut [u8]) -> Result<usize, Refusal>
     ensures { Builds s out.old result out.new }
 {
-    if let Checked::Refused(r) = check_table(s) {
-        return Wrote::Refused(r);
-    }
-    let size = table_size(s.p);
+    let s = accept_table(s)?;
+    let size = s.table_size();
     if out.len() < size {
-        return Wrote::Refused(refusals::SHORT);
+        return Err(Refusal::Short);
     }
-    write_table(s.p, s.t, out);
-    Wrote::Count(size)
+    s.write_table(out);
+    Ok(size)
 }
 
 // Each word as reduce answers it, by look-ups in a table that fits: 14, 15, 10, 11. Every byte of the table is tested on each call, once for
 // the whole list, and also where the list is empty.
-pub fn reduce_by_table(s: Setting, table: &[u8], words: &[u64], out: &mut [u64]) -> Wrote
+#[tactic(auto, unfolding(crate::specs::Tables::by_table_checks))]
+pub fn reduce_by_table(
+    s: Setting,
+    table: &[u8],
+    words: &[u64],
+    out: &mut [u64],
+) -> Result<usize, Refusal>
     ensures { ReducesByTable s table.now words.now out.old result out.new }
 {
-    if let Checked::Refused(r) = check_table(s) {
-        return Wrote::Refused(r);
-    }
-    let size = table_size(s.p);
-    let differs = first_difference(s.p, s.t, table);
-    if differs < size {
-        return Wrote::Refused(refusals::stale(differs));
+    let s = accept_table(s)?;
+    if let Some(i) = s.first_difference(table) {
+        return Err(Refusal::Stale(i));
     }
     if out.len() < words.len() {
-        return Wrote::Refused(refusals::SHORT);
+        return Err(Refusal::Short);
     }
-    if let Checked::Refused(r) = check_words(s, words) {
-        return Wrote::Refused(r);
-    }
-    reduce_words(s, &table[HEADER_SIZE..size], words, out);
-    Wrote::Count(words.len())
+    check_words(s.accepted.setting, words)?;
+    s.reduce_words(&table[HEADER_SIZE..s.table_size()], words, out);
+    Ok(words.len())
 }
 
 // The entries of the first buffer that fits, as a part of it. It is empty, at the start of the first buffer, if neither fits, the setting is
-// refused, or p > 127.
+// refused, or p > 127. The promise tells where that empty part lies, so it is no Option.
 pub fn pick<'a>(s: Setting, first: &'a [u8], second: &'a [u8]) -> &'a [u8]
     ensures { Picks s first.entry second.entry result }
 {
-    let Checked::Accepted = check_table(s) else {
+    let Ok(s) = accept_table(s) else {
         return &first[..0];
     };
-    let size = table_size(s.p);
-    if size <= first_difference(s.p, s.t, first) {
-        return &first[HEADER_SIZE..size];
+    if s.first_difference(first).is_none() {
+        &first[HEADER_SIZE..s.table_size()]
+    } else if s.first_difference(second).is_none() {
+        &second[HEADER_SIZE..s.table_size()]
+    } else {
+        &first[..0]
     }
-    if size <= first_difference(s.p, s.t, second) {
-        return &second[HEADER_SIZE..size];
-    }
-    &first[..0]
 }
 
 // The setting's checks, then 14.
-fn check_table(s: Setting) -> Checked
-    ensures { checked_says result ≡ table_checks s }
+#[tactic(auto, unfolding(crate::specs::Tables::table_checks))]
+fn accept_table(s: Setting) -> Result<TableSetting, Refusal>
+    ensures { Admits s result }
 {
-    if let Checked::Refused(r) = check(s) {
-        return Checked::Refused(r);
-    }
+    let accepted = accept(s)?;
     if LARGEST_TABLE_MODULUS < s.p {
-        return Checked::Refused(refusals::NO_TABLE);
+        return Err(Refusal::NoTable);
     }
-    Checked::Accepted
+    Ok(TableSetting { accepted })
 }

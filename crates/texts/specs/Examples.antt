@@ -2,14 +2,14 @@
 --     kinds-agree       the kinds of bytes, those on both sides of every limit among them
 --     reads-agree       texts that are read whole, and such that stop at a stray byte, at a number that is too large, at one for which there is no room
 --     puts-agree        numbers and a refusal in text, and where a text stands in a buffer
-use Rattle.std.specs.Prelude.{ℕ, ◌≡◌, refl, List, [], ◌∷◌}
+use Rattle.std.specs.Prelude.{ℕ, ◌≡◌, refl, List, [], ◌∷◌, Result, Ok, Err}
 use Rattle.polynomials.specs.Indices.{first}
 use Rattle.layout.specs.Decimals.{digits, decimal}
 use Rattle.texts.specs.Kinds.{kind_of}
 use Rattle.texts.specs.Reading.{bad_at, outcome_at, outcome}
 use Rattle.texts.specs.Putting.{spaced, refused_text, pasted, next_place}
-use Rattle.texts.specs.declared.reading.Numbers.{Numbers}
-use Rattle.texts.specs.declared.reading.Numbers.TheVariants.{Count, Stray, Large, Many}
+use Rattle.texts.specs.declared.reading.Stop.{Stop}
+use Rattle.texts.specs.declared.reading.Stop.TheVariants.{Stray, Large, Many}
 
 abbrev each : List ℕ → List ℕ
 each [] = []
@@ -28,7 +28,7 @@ pub record TextRow : Type 0 where
 abbrev row : ℕ → ℕ → List ℕ → TextRow
 row m n cs = record { most = m; room = n; text = cs }
 
-abbrev reads : List TextRow → List Numbers
+abbrev reads : List TextRow → List (Result ℕ Stop)
 reads [] = []
 reads (r ∷ rs) = outcome r.most r.room r.text ∷ reads rs
 
@@ -55,26 +55,26 @@ pub reads-agree :
     ∷ row 99 1 (49 ∷ 32 ∷ 57 ∷ 57 ∷ [])
     ∷ row 9 1 (49 ∷ 32 ∷ 50 ∷ 32 ∷ 120 ∷ [])
     ∷ [])
-    ≡ Count 0
-    ∷ Count 0
-    ∷ Count 1
-    ∷ Count 2
-    ∷ Count 2
-    ∷ Many 2
-    ∷ Many 0
-    ∷ Count 1
-    ∷ Large 0
-    ∷ Large 3
-    ∷ Count 2
-    ∷ Stray 2
-    ∷ Stray 0
-    ∷ Stray 1
-    ∷ Stray 1
-    ∷ Large 2
-    ∷ Stray 2
-    ∷ Large 2
-    ∷ Many 2
-    ∷ Many 2
+    ≡ Ok 0
+    ∷ Ok 0
+    ∷ Ok 1
+    ∷ Ok 2
+    ∷ Ok 2
+    ∷ Err (Many 2)
+    ∷ Err (Many 0)
+    ∷ Ok 1
+    ∷ Err (Large 0)
+    ∷ Err (Large 3)
+    ∷ Ok 2
+    ∷ Err (Stray 2)
+    ∷ Err (Stray 0)
+    ∷ Err (Stray 1)
+    ∷ Err (Stray 1)
+    ∷ Err (Large 2)
+    ∷ Err (Stray 2)
+    ∷ Err (Large 2)
+    ∷ Err (Many 2)
+    ∷ Err (Many 2)
     ∷ []
 unfolding outcome outcome_at bad_at first
 reads-agree = refl

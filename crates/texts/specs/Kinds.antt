@@ -1,19 +1,27 @@
 -- What a byte is in a line of text, and searches for a kind. Definitions only.
 --     is_blank c, is_letter c       a space or the end of a line, also with a carriage return; a small letter. is_digit is that of `layout`
+--     code_of k                    the number of a kind
 --     blank_kind, digit_kind, letter_kind, colon_kind, comment_kind, other_kind
---                                 the kinds, as the code numbers them
+--                                 these numbers
 --     kind_of c                    the kind of a byte
 --     kind-once                   it is one
 --     wanted c kind is            the byte is of that kind, where `is` is true, or of another, where it is false
 --     is_kind cs kind is j         so is the byte at place j
---     place_of cs kind is i        the first place from i on where that holds, and the text's end where there is none; past the end, i itself
---     Seeks                       what the search promises
---     seek-once                   it allows one answer
-use Rattle.std.specs.Prelude.{ℕ, ◌-◌, ◌≡◌, Bool, false, not, ◌||◌, List, eqb, ltb, length}
+--     passes_at p cs j            the byte at place j passes the test p
+--     place_where p cs i          the first place from i on where that holds, and the text's end where there is none; past the end, i itself
+--     place_of cs kind is i        so it is with `wanted`
+--     Computes post p             a closure's results, for every byte, are those of p
+--     SeeksBy post cs i r         what the search promises: the place of every test that the closure computes
+--     Seeks cs kind is i r        what it promises for a kind
+--     seek-by-once, seek-once     each allows one answer
+--     seek-kind                   the second promise is the first one, for a closure that computes `wanted`
+use Rattle.std.specs.Prelude.{ℕ, ◌-◌, ◌<◌, ◌≡◌, Bool, false, not, ◌||◌, List, eqb, ltb, length}
 use Rattle.std.proofs.Common.{sym, ◌∙◌}
 use Rattle.polynomials.specs.Indices.{pick, first}
 use Rattle.polynomials.specs.Lists.{coefficient}
 use Rattle.layout.specs.Decimals.{is_digit}
+use Rattle.texts.specs.declared.kinds.Kind.{Kind}
+use Rattle.texts.specs.declared.kinds.Kind.TheVariants.{Blank, Digit, Letter, Colon, Comment, Other}
 
 abbrev pub is_blank : ℕ → Bool
 is_blank c = eqb c 32 || (eqb c 10 || eqb c 13)
@@ -39,6 +47,14 @@ comment_kind = 4
 abbrev pub other_kind : ℕ
 other_kind = 5
 
+abbrev pub code_of : Kind → ℕ
+code_of Blank = blank_kind
+code_of Digit = digit_kind
+code_of Letter = letter_kind
+code_of Colon = colon_kind
+code_of Comment = comment_kind
+code_of Other = other_kind
+
 unfoldable pub kind_of : ℕ → ℕ
 kind_of c =
     pick (is_blank c) blank_kind (pick (is_digit c) digit_kind (pick (is_letter c) letter_kind (pick (eqb c 58) colon_kind (pick (eqb c 35) comment_kind other_kind))))
@@ -49,14 +65,32 @@ kind-once c r s a b = a ∙ sym b
 abbrev pub wanted : ℕ → ℕ → Bool → Bool
 wanted c kind is = pick is (eqb (kind_of c) kind) (not (eqb (kind_of c) kind))
 
-abbrev pub is_kind : List ℕ → ℕ → Bool → ℕ → Bool
-is_kind cs kind is j = wanted (coefficient cs j) kind is
+abbrev pub passes_at : (ℕ → Bool) → List ℕ → ℕ → Bool
+passes_at p cs j = p (coefficient cs j)
 
-unfoldable pub place_of : List ℕ → ℕ → Bool → ℕ → ℕ
-place_of cs kind is i = first (is_kind cs kind is) (length cs - i) i
+unfoldable pub place_where : (ℕ → Bool) → List ℕ → ℕ → ℕ
+place_where p cs i = first (passes_at p cs) (length cs - i) i
+
+abbrev pub is_kind : List ℕ → ℕ → Bool → ℕ → Bool
+is_kind cs kind is = passes_at (λ c. wanted c kind is) cs
+
+abbrev pub place_of : List ℕ → ℕ → Bool → ℕ → ℕ
+place_of cs kind is i = place_where (λ c. wanted c kind is) cs i
+
+abbrev pub Computes : (ℕ → Bool → Type 0) → (ℕ → Bool) → Type 0
+Computes post p = (c : ℕ) (r : Bool) → c < 256 → post c r → r ≡ p c
+
+abbrev pub SeeksBy : (ℕ → Bool → Type 0) → List ℕ → ℕ → ℕ → Type 0
+SeeksBy post cs i r = (p : ℕ → Bool) → Computes post p → r ≡ place_where p cs i
 
 abbrev pub Seeks : List ℕ → ℕ → Bool → ℕ → ℕ → Type 0
 Seeks cs kind is i r = r ≡ place_of cs kind is i
 
 pub seek-once : (cs : List ℕ) (kind : ℕ) (is : Bool) (i r s : ℕ) → Seeks cs kind is i r → Seeks cs kind is i s → r ≡ s
 seek-once cs kind is i r s a b = a ∙ sym b
+
+pub seek-by-once : (post : ℕ → Bool → Type 0) (p : ℕ → Bool) (cs : List ℕ) (i r s : ℕ) → Computes post p → SeeksBy post cs i r → SeeksBy post cs i s → r ≡ s
+seek-by-once post p cs i r s h a b = a p h ∙ sym (b p h)
+
+pub seek-kind : (post : ℕ → Bool → Type 0) (cs : List ℕ) (kind : ℕ) (is : Bool) (i r : ℕ) → Computes post (λ c. wanted c kind is) → SeeksBy post cs i r → Seeks cs kind is i r
+seek-kind post cs kind is i r h a = a (λ c. wanted c kind is) h

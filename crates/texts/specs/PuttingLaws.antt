@@ -6,18 +6,17 @@
 --     puts-join, puts-spaced      a text, and another at the answered place, are one text; so are numbers, a space before each
 --     put-fits                    a text from the first place on, if it has room: all of it stands there, and its length is answered
 --     put_byte, put-cut           bytes are put one by one: a turn, and where the buffer ends
---     put_next                    numbers are put one by one, a space before each: a turn
 --     word-digits                 a number of 64 bits takes at most 20 digits
 --     DigitsFrom n i rest bytes   a number's digits are being stored into 20 bytes, from the last one on: those from place i on stand, rest is to be
 --                                 stored, and a digit at least
 --     digits-none, digits-turn, digits-all
 --                                 so it is before the first turn; a turn; and when all stand
 use Rattle.std.specs.Prelude.{ℕ, suc, ◌+◌, ◌-◌, ◌/◌, ◌%◌, ◌^◌, ◌≤◌, ◌<◌, ◌≡◌, refl, List, [], ◌∷◌, ◌++◌, set, take, drop, replicate}
-use Rattle.std.proofs.Common.{sym, ap, ◌∙◌, lt_of_lt_of_le, div-one, pos_of_ne-zero, add-one, arith, length-append, length-set, length-drop, take-append-drop, drop_of_length-le, get_or-set_same, get_or-set_other, get_or-drop, take-suc, take_all, drop-cons, drop-set-lt, lit≤}
+use Rattle.std.proofs.Common.{sym, ap, ◌∙◌, lt_of_lt_of_le, lt-ltb, le-ltb, le-leb, div-one, pos_of_ne-zero, add-one, arith, length-append, length-set, length-drop, take-append-drop, drop_of_length-le, get_or-set_same, get_or-set_other, get_or-drop, take-suc, take_all, drop-cons, drop-set-lt, lit≤}
 use Rattle.std.proofs.Math.Nat.{sub-zero, pow-zero}
 use Rattle.std.proofs.Math.Decide.{dec_lt}
 use Rattle.std.proofs.Math.ListN.{length, get_or-append}
-use borrow.Author.Tests.{lt-ltb, le-ltb, le-leb, lt-leb}
+use Rattle.std.proofs.lemmas.Bool.{lt-leb}
 use Rattle.polynomials.specs.IndexLaws.{length-upto, upto-at}
 use Rattle.polynomials.specs.Lists.{coefficient}
 use Rattle.polynomials.specs.ListLaws.{lists_agree, coefficient-after}

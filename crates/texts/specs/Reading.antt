@@ -11,14 +11,14 @@
 --     left_of r ns old              what is left of a list that was lent for them: the numbers and what stood after, or the list as it was
 --     ReadsNumbers                 what reading promises
 --     read-once                    it allows one answer and one list
-use Rattle.std.specs.Prelude.{ℕ, zero, suc, ◌-◌, ◌≡◌, Bool, false, not, ◌||◌, ◌&&◌, List, ◌++◌, leb, ltb, length, drop}
+use Rattle.std.specs.Prelude.{ℕ, zero, suc, ◌-◌, ◌≡◌, Bool, false, not, ◌||◌, ◌&&◌, List, ◌++◌, Result, Ok, Err, leb, ltb, length, drop}
 use Rattle.std.proofs.Common.{sym, ◌∙◌}
 use Rattle.polynomials.specs.Indices.{pick, first}
 use Rattle.polynomials.specs.Lists.{coefficient}
 use Rattle.layout.specs.Decimals.{is_digit, numbers_in}
 use Rattle.texts.specs.Kinds.{is_blank}
-use Rattle.texts.specs.declared.reading.Numbers.{Numbers}
-use Rattle.texts.specs.declared.reading.Numbers.TheVariants.{Count, Stray, Large, Many}
+use Rattle.texts.specs.declared.reading.Stop.{Stop}
+use Rattle.texts.specs.declared.reading.Stop.TheVariants.{Stray, Large, Many}
 
 abbrev pub stray_at : List ℕ → ℕ → Bool
 stray_at cs i = not (is_blank (coefficient cs i) || is_digit (coefficient cs i))
@@ -45,23 +45,21 @@ many_at room cs i = begins_at cs i && leb room (numbers_before cs i)
 unfoldable pub bad_at : ℕ → ℕ → List ℕ → ℕ → Bool
 bad_at most room cs i = stray_at cs i || (large_at most cs i || many_at room cs i)
 
-unfoldable pub outcome_at : ℕ → ℕ → List ℕ → ℕ → Numbers
+unfoldable pub outcome_at : ℕ → ℕ → List ℕ → ℕ → Result ℕ Stop
 outcome_at most room cs i =
-    pick (ltb i (length cs)) (pick (stray_at cs i) (Stray i) (pick (large_at most cs i) (Large i) (Many i))) (Count (length (numbers_in cs)))
+    pick (ltb i (length cs)) (Err (pick (stray_at cs i) (Stray i) (pick (large_at most cs i) (Large i) (Many i)))) (Ok (length (numbers_in cs)))
 
-unfoldable pub outcome : ℕ → ℕ → List ℕ → Numbers
+unfoldable pub outcome : ℕ → ℕ → List ℕ → Result ℕ Stop
 outcome most room cs = outcome_at most room cs (first (bad_at most room cs) (length cs) 0)
 
-abbrev pub left_of : Numbers → List ℕ → List ℕ → List ℕ
-left_of (Count m) ns old = ns ++ drop (length ns) old
-left_of (Stray i) ns old = old
-left_of (Large i) ns old = old
-left_of (Many i) ns old = old
+abbrev pub left_of : Result ℕ Stop → List ℕ → List ℕ → List ℕ
+left_of (Ok n) ns old = ns ++ drop (length ns) old
+left_of (Err why) ns old = old
 
-pub record ReadsNumbers (most : ℕ) (cs old : List ℕ) (r : Numbers) (after : List ℕ) : Type 0 where
+pub record ReadsNumbers (most : ℕ) (cs old : List ℕ) (r : Result ℕ Stop) (after : List ℕ) : Type 0 where
   pub answer : r ≡ outcome most (length old) cs
   pub list : after ≡ left_of (outcome most (length old) cs) (numbers_in cs) old
 
-pub read-once : (most : ℕ) (cs old : List ℕ) (r s : Numbers) (after other : List ℕ) → ReadsNumbers most cs old r after → ReadsNumbers most cs old s other
+pub read-once : (most : ℕ) (cs old : List ℕ) (r s : Result ℕ Stop) (after other : List ℕ) → ReadsNumbers most cs old r after → ReadsNumbers most cs old s other
     → (r ≡ s) × (after ≡ other)
 read-once most cs old r s after other a b = (a.answer ∙ sym b.answer, a.list ∙ sym b.list)

@@ -6,7 +6,7 @@
 --     large-stops                  for a number that is too large where one begins,
 --     many-stops                   for want of room where a number begins before which as many stand as there is room for,
 --     counted-all                  and where it counts it counts all numbers
-use Rattle.std.specs.Prelude.{ℕ, zero, suc, ◌+◌, ◌-◌, ◌*◌, ◌≤◌, ◌<◌, ◌≡◌, refl, Bool, true, false, not, ◌||◌, ◌&&◌, List, [], ◌∷◌, ◌++◌, leb, ltb, length, take, drop}
+use Rattle.std.specs.Prelude.{ℕ, zero, suc, ◌+◌, ◌-◌, ◌*◌, ◌≤◌, ◌<◌, ◌≡◌, refl, Bool, true, false, not, ◌||◌, ◌&&◌, List, [], ◌∷◌, ◌++◌, leb, ltb, length, take, drop, Result, Ok, Err}
 use Rattle.std.proofs.Common.{ap, ◌∙◌, arith, length-append, drop-cons, ltb-true, leb-true, le-ltb}
 use Rattle.std.proofs.Math.Bool.{and-eq-true_iff}
 use Rattle.std.proofs.lemmas.Bool.{not-true, lt-leb}
@@ -19,8 +19,8 @@ use Rattle.texts.specs.KindLaws.{digit-no-blank}
 use Rattle.texts.specs.Putting.{spaced}
 use Rattle.texts.specs.Reading.{stray_at, follows_digit, begins_at, number_from, numbers_before, large_at, many_at, bad_at, outcome_at, outcome, ReadsNumbers}
 use Rattle.texts.specs.SpacedLaws.{read-list}
-use Rattle.texts.specs.declared.reading.Numbers.{Numbers}
-use Rattle.texts.specs.declared.reading.Numbers.TheVariants.{Count, Stray, Large, Many}
+use Rattle.texts.specs.declared.reading.Stop.{Stop}
+use Rattle.texts.specs.declared.reading.Stop.TheVariants.{Stray, Large, Many}
 
 -- ---- the numbers before a place and from there on
 
@@ -89,7 +89,7 @@ nothing-bad most room cs clean small fits i h = go (begins_at cs i) refl
 
 pub read-clean : (most room : ℕ) (cs : List ℕ) → ((j : ℕ) → j < length cs → stray_at cs j ≡ false)
     → ((j : ℕ) → j < length (numbers_in cs) → coefficient (numbers_in cs) j ≤ most) → length (numbers_in cs) ≤ room
-    → outcome most room cs ≡ Count (length (numbers_in cs))
+    → outcome most room cs ≡ Ok (length (numbers_in cs))
 unfolding outcome outcome_at
 read-clean most room cs clean small fits =
     let through = (first-none (bad_at most room cs) (length cs)).1 (nothing-bad most room cs clean small fits) in
@@ -113,23 +113,23 @@ spaced-clean (n ∷ ns) zero h = refl
 spaced-clean (n ∷ ns) (suc j) h = join-clean (decimal n) (spaced ns) (decimal-clean n) (spaced-clean ns) j (omega arith)
 
 pub read_back : (most room : ℕ) (ns : List ℕ) → ((j : ℕ) → j < length ns → coefficient ns j ≤ most) → length ns ≤ room
-    → outcome most room (spaced ns) ≡ Count (length ns)
+    → outcome most room (spaced ns) ≡ Ok (length ns)
 read_back most room ns small fits =
     rw (read-list ns) at (read-clean most room (spaced ns) (spaced-clean ns) (rw (read-list ns) small) (rw (read-list ns) fits))
 
-pub read-back-promise : (most : ℕ) (ns old : List ℕ) (r : Numbers) (after : List ℕ) → ((j : ℕ) → j < length ns → coefficient ns j ≤ most)
-    → length ns ≤ length old → ReadsNumbers most (spaced ns) old r after → (r ≡ Count (length ns)) × (after ≡ ns ++ drop (length ns) old)
+pub read-back-promise : (most : ℕ) (ns old : List ℕ) (r : Result ℕ Stop) (after : List ℕ) → ((j : ℕ) → j < length ns → coefficient ns j ≤ most)
+    → length ns ≤ length old → ReadsNumbers most (spaced ns) old r after → (r ≡ Ok (length ns)) × (after ≡ ns ++ drop (length ns) old)
 read-back-promise most ns old r after small fits h =
     let back = read_back most (length old) ns small fits in
     (h.answer ∙ back, rw (back, read-list ns) at h.list)
 
 -- ---- what each answer is given for
 
-abbrev Cause : ℕ → ℕ → List ℕ → Numbers → Type 0
-Cause most room cs (Count n) = n ≡ length (numbers_in cs)
-Cause most room cs (Stray i) = (i < length cs) × (stray_at cs i ≡ true)
-Cause most room cs (Large i) = (begins_at cs i ≡ true) × (most < number_from cs i)
-Cause most room cs (Many i) = (begins_at cs i ≡ true) × (room ≤ numbers_before cs i)
+abbrev Cause : ℕ → ℕ → List ℕ → Result ℕ Stop → Type 0
+Cause most room cs (Ok n) = n ≡ length (numbers_in cs)
+Cause most room cs (Err (Stray i)) = (i < length cs) × (stray_at cs i ≡ true)
+Cause most room cs (Err (Large i)) = (begins_at cs i ≡ true) × (most < number_from cs i)
+Cause most room cs (Err (Many i)) = (begins_at cs i ≡ true) × (room ≤ numbers_before cs i)
 
 caused : (most room : ℕ) (cs : List ℕ) → Cause most room cs (outcome most room cs)
 unfolding outcome outcome_at bad_at
@@ -142,7 +142,7 @@ caused most room cs = go (ltb bad (length cs)) (stray_at cs bad) (large_at most 
     holds l = (first-is (bad_at most room cs) (length cs) 0).holds (omega arith)
 
     go : (inside stray large : Bool) → ltb bad (length cs) ≡ inside → stray_at cs bad ≡ stray → large_at most cs bad ≡ large
-        → Cause most room cs (pick inside (pick stray (Stray bad) (pick large (Large bad) (Many bad))) (Count (length (numbers_in cs))))
+        → Cause most room cs (pick inside (Err (pick stray (Stray bad) (pick large (Large bad) (Many bad)))) (Ok (length (numbers_in cs))))
     go false stray large l s g = refl
     go true true large l s g = (ltb-true bad (length cs) l, s)
     go true false true l s g =
@@ -153,17 +153,17 @@ caused most room cs = go (ltb bad (length cs)) (stray_at cs bad) (large_at most 
         let both = (and-eq-true_iff (begins_at cs bad) (leb room (numbers_before cs bad))).0 many in
         (both.0, leb-true room (numbers_before cs bad) both.1)
 
-pub stray-stops : (most room : ℕ) (cs : List ℕ) (i : ℕ) → outcome most room cs ≡ Stray i → stray_at cs i ≡ true
+pub stray-stops : (most room : ℕ) (cs : List ℕ) (i : ℕ) → outcome most room cs ≡ Err (Stray i) → stray_at cs i ≡ true
 stray-stops most room cs i e = (rw e at (caused most room cs)).1
 
-pub stray-inside : (most room : ℕ) (cs : List ℕ) (i : ℕ) → outcome most room cs ≡ Stray i → i < length cs
+pub stray-inside : (most room : ℕ) (cs : List ℕ) (i : ℕ) → outcome most room cs ≡ Err (Stray i) → i < length cs
 stray-inside most room cs i e = (rw e at (caused most room cs)).0
 
-pub large-stops : (most room : ℕ) (cs : List ℕ) (i : ℕ) → outcome most room cs ≡ Large i → (begins_at cs i ≡ true) × (most < number_from cs i)
+pub large-stops : (most room : ℕ) (cs : List ℕ) (i : ℕ) → outcome most room cs ≡ Err (Large i) → (begins_at cs i ≡ true) × (most < number_from cs i)
 large-stops most room cs i e = rw e at (caused most room cs)
 
-pub many-stops : (most room : ℕ) (cs : List ℕ) (i : ℕ) → outcome most room cs ≡ Many i → (begins_at cs i ≡ true) × (room ≤ numbers_before cs i)
+pub many-stops : (most room : ℕ) (cs : List ℕ) (i : ℕ) → outcome most room cs ≡ Err (Many i) → (begins_at cs i ≡ true) × (room ≤ numbers_before cs i)
 many-stops most room cs i e = rw e at (caused most room cs)
 
-pub counted-all : (most room : ℕ) (cs : List ℕ) (n : ℕ) → outcome most room cs ≡ Count n → n ≡ length (numbers_in cs)
+pub counted-all : (most room : ℕ) (cs : List ℕ) (n : ℕ) → outcome most room cs ≡ Ok n → n ≡ length (numbers_in cs)
 counted-all most room cs n e = rw e at (caused most room cs)

@@ -1,24 +1,26 @@
 -- Laws of the loops that read numbers. Assumes nothing.
 --     Going cs i value end         the digits from place i up to end have been read, and come to value
---     going-begins, going-turn     so it is before the first digit; a turn
+--     going-turn                   a turn
+--     going-begins                 a run begins
 --     going-stops, going-ended     a run that stops at a byte that is no digit, or with the text
+--     fits_told, large-told        what is said of a number
 --     going-larger                 a number is not below what its first digits come to
---     fits_told, large-told        what is known of a number where looking at it has answered
 --     Sought most room cs i n      no place before i is bad, and n numbers stand there; a digit at i follows none
---     sought-begins, sought-blank, sought-run
---                                  so it is at the start; after a blank; after a run
+--     sought-begins                so it is at the start
+--     sought-blank, sought-run     and after a blank; after a run
 --     sought-stray, sought-large, sought-many, sought-ended
 --                                  what the outcome is where the search stops
 --     Writing cs i n old now       the numbers before place i, n of them, stand in the list
 --     writing_begins, writing-passed, writing-run, writing-ended
 --                                  so it is at the start; after a byte that is no digit; after a run; and all of them do
+--     clean-small, writing-small, writing-room
+--                                  where nothing is bad, a number that begins is not too large, and there is room for it
 --     counted-clean                where the numbers are counted, nothing is bad
---     reads-list, reads_nothing    what keeps the promise of reading: the numbers, or where it stops
---     clean-small, writing-room    where nothing is bad, a number that begins is not too large, and there is room for it
-use Rattle.std.specs.Prelude.{ℕ, zero, suc, ◌+◌, ◌-◌, ◌*◌, ◌≤◌, ◌<◌, ◌≡◌, refl, Bool, true, false, not, List, [], ◌∷◌, ◌++◌, leb, ltb, length, set, drop}
+--     reads-list, reads_nothing    the promise of reading, from the outcome and the list
+use Rattle.std.specs.Prelude.{ℕ, zero, suc, ◌+◌, ◌-◌, ◌*◌, ◌≤◌, ◌<◌, ◌≡◌, Bool, true, false, not, List, [], ◌∷◌, ◌++◌, leb, ltb, length, set, drop, refl, Option, Some, None, Result, Ok, Err}
 use Rattle.std.proofs.Common.{sym, ap, ◌∙◌, true≢false, zero-add, add-one, arith, length-drop, drop_of_length-le, drop-cons, lt-ltb, le-ltb, ltb-false, le-leb, leb-false}
-use Rattle.std.proofs.Math.Bool.{and-false}
 use Rattle.std.proofs.Math.Nat.{sub-zero}
+use Rattle.std.proofs.Math.Bool.{and-false}
 use Rattle.std.proofs.Math.Decide.{ℕ_discrete, dec_lt}
 use Rattle.std.proofs.lemmas.Bool.{lt-leb}
 use Rattle.polynomials.specs.Indices.{pick, filled, first}
@@ -32,10 +34,8 @@ use Rattle.texts.specs.KindLaws.{digit-no-blank}
 use Rattle.texts.specs.Reading.{stray_at, follows_digit, number_from, numbers_before, large_at, many_at, bad_at, outcome_at, outcome, left_of, ReadsNumbers}
 use Rattle.texts.specs.Runs.{RunAt, NumberSays, Clean, NumbersStand}
 use Rattle.texts.specs.declared.reading.Run.{Run}
-use Rattle.texts.specs.declared.reading.Number.{Number}
-use Rattle.texts.specs.declared.reading.Number.TheVariants as in_number
-use Rattle.texts.specs.declared.reading.Numbers.{Numbers}
-use Rattle.texts.specs.declared.reading.Numbers.TheVariants.{Count, Stray, Large, Many}
+use Rattle.texts.specs.declared.reading.Stop.{Stop}
+use Rattle.texts.specs.declared.reading.Stop.TheVariants.{Stray, Large, Many}
 
 -- ---- one number
 
@@ -54,35 +54,6 @@ going-begins cs i h d =
       rest = rw (drop-cons cs i 0 h, d, zero-add);
     }
 
-pub going-turn : (cs : List ℕ) (i value end : ℕ) → end < length cs → is_digit (coefficient cs end) ≡ true → Going cs i value end
-    → Going cs i (value * 10 + (coefficient cs end - 48)) (end + 1)
-going-turn cs i value end h d g =
-    record {
-      low = omega (arith, g.low);
-      inside = omega arith;
-      all = λ j a b. next j a b (ℕ_discrete j end);
-      rest = g.rest ∙ (rw (drop-cons cs end 0 h, d, add-one end));
-    }
-  where
-    next : (j : ℕ) → i ≤ j → j < end + 1 → Dec (j ≡ end) → is_digit (coefficient cs j) ≡ true
-    next j a b (yes e) = rw e d
-    next j a b (no e) = g.all j a (omega arith)
-
-pub going-stops : (cs : List ℕ) (i value end : ℕ) → end < length cs → is_digit (coefficient cs i) ≡ true → is_digit (coefficient cs end) ≡ false → Going cs i value end
-    → RunAt cs i value end
-going-stops cs i value end h d stop g =
-    record {
-      after = later (ℕ_discrete i end);
-      inside = g.inside;
-      all = g.all;
-      stops = λ l. stop;
-      rest = g.rest ∙ (rw (drop-cons cs end 0 h, stop));
-    }
-  where
-    later : Dec (i ≡ end) → i < end
-    later (yes e) = absurd (true≢false (sym d ∙ ap (λ (j : ℕ). is_digit (coefficient cs j)) e ∙ stop))
-    later (no e) = omega (arith, g.low)
-
 pub going-ended : (cs : List ℕ) (i value end : ℕ) → i < length cs → length cs ≤ end → Going cs i value end → RunAt cs i value end
 going-ended cs i value end h ended g =
     record {
@@ -93,6 +64,30 @@ going-ended cs i value end h ended g =
       rest = g.rest ∙ rw (drop_of_length-le cs {i = end} ended);
     }
 
+module _ {cs : List ℕ} {i value end : ℕ} (g : Going cs i value end) where
+  pub going-turn : end < length cs → is_digit (coefficient cs end) ≡ true → Going cs i (value * 10 + (coefficient cs end - 48)) (end + 1)
+  going-turn h d =
+      record {
+        low = omega (arith, g.low);
+        inside = omega arith;
+        all = λ j a b. next j a b (ℕ_discrete j end);
+        rest = g.rest ∙ (rw (drop-cons cs end 0 h, d, add-one end));
+      }
+    where
+      next : (j : ℕ) → i ≤ j → j < end + 1 → Dec (j ≡ end) → is_digit (coefficient cs j) ≡ true
+      next j a b (yes e) = rw e d
+      next j a b (no e) = g.all j a (omega arith)
+
+  pub going-stops : end < length cs → is_digit (coefficient cs i) ≡ true → is_digit (coefficient cs end) ≡ false → RunAt cs i value end
+  going-stops h d stop =
+      record {
+        after = grind (arith, g.low);
+        inside = g.inside;
+        all = g.all;
+        stops = λ l. stop;
+        rest = g.rest ∙ (rw (drop-cons cs end 0 h, stop));
+      }
+
 reading-least : (v : ℕ) (cs : List ℕ) → v ≤ coefficient (reading true v cs) 0
 reading-least v [] = omega arith
 reading-least v (c ∷ cs) = go (is_digit c) (reading-least (v * 10 + (c - 48)) cs)
@@ -102,16 +97,16 @@ reading-least v (c ∷ cs) = go (is_digit c) (reading-least (v * 10 + (c - 48)) 
     go true h = omega arith
     go false h = omega arith
 
-pub going-larger : (cs : List ℕ) (i value end : ℕ) → end < length cs → is_digit (coefficient cs end) ≡ true → Going cs i value end
+pub going-larger : {cs : List ℕ} {i value end : ℕ} → Going cs i value end → end < length cs → is_digit (coefficient cs end) ≡ true
     → value * 10 + (coefficient cs end - 48) ≤ number_from cs i
-going-larger cs i value end h d g =
-    let next = going-turn cs i value end h d g in
+going-larger {cs} {i} {value} {end} g h d =
+    let next = going-turn g h d in
     rw next.rest (reading-least (value * 10 + (coefficient cs end - 48)) (drop (end + 1) cs))
 
-pub fits_told : (most : ℕ) (cs : List ℕ) (i : ℕ) (r : Number) (x : Run) → NumberSays most cs i r → r ≡ in_number.Fits x → RunAt cs i x.value x.end × (x.value ≤ most)
+pub fits_told : (most : ℕ) (cs : List ℕ) (i : ℕ) (r : Option Run) (x : Run) → NumberSays most cs i r → r ≡ Some x → RunAt cs i x.value x.end × (x.value ≤ most)
 fits_told most cs i r x h e = rw e at h
 
-pub large-told : (most : ℕ) (cs : List ℕ) (i : ℕ) (r : Number) → NumberSays most cs i r → r ≡ in_number.Large → most < number_from cs i
+pub large-told : (most : ℕ) (cs : List ℕ) (i : ℕ) (r : Option Run) → NumberSays most cs i r → r ≡ None → most < number_from cs i
 large-told most cs i r h e = rw e at h
 
 -- ---- what is bad at a place
@@ -139,8 +134,8 @@ fresh-passed : (cs : List ℕ) (i : ℕ) → is_digit (coefficient cs i) ≡ fal
 fresh-passed cs i d l = ap (follows_digit cs) (add-one i) ∙ d
 
 -- after a run there is none at all
-fresh-run : (cs : List ℕ) (i value end : ℕ) → RunAt cs i value end → is_digit (coefficient cs end) ≡ true → follows_digit cs end ≡ false
-fresh-run cs i value end r d = absurd (stopped (dec_lt end (length cs)))
+fresh-run : {cs : List ℕ} {i value end : ℕ} → RunAt cs i value end → is_digit (coefficient cs end) ≡ true → follows_digit cs end ≡ false
+fresh-run {cs} {i} {value} {end} r d = absurd (stopped (dec_lt end (length cs)))
   where
     stopped : Dec (end < length cs) → ⊥
     stopped (yes l) = true≢false (sym d ∙ r.stops l)
@@ -173,103 +168,93 @@ sought-begins most room cs =
       fresh = λ d. refl;
     }
 
-pub sought-blank : (most room : ℕ) (cs : List ℕ) (i n : ℕ) → i < length cs → is_blank (coefficient cs i) ≡ true → is_digit (coefficient cs i) ≡ false
-    → Sought most room cs i n → Sought most room cs (i + 1) n
-sought-blank most room cs i n h b d s =
-    record {
-      inside = omega arith;
-      bad = s.bad ∙ first-passed (bad_at most room cs) (length cs) i h (blank-fine most room cs i b d);
-      count = ap (λ (ns : List ℕ). n + length ns) (sym rest) ∙ s.count;
-      fits = s.fits;
-      fresh = fresh-passed cs i d;
-    }
-  where
-    rest : numbers_in (drop i cs) ≡ numbers_in (drop (i + 1) cs)
-    rest = rw (drop-cons cs i 0 h, d, add-one i)
+from-run : {cs : List ℕ} {i value end : ℕ} → RunAt cs i value end → number_from cs i ≡ value
+from-run r = ap (λ (ns : List ℕ). coefficient ns 0) r.rest
 
--- the numbers that stand before the place where a run begins
-before-run : (most room : ℕ) (cs : List ℕ) (i n value end : ℕ) → RunAt cs i value end → Sought most room cs i n → numbers_before cs i ≡ n
-before-run most room cs i n value end r s = omega (arith, s.count)
+module _ {most room : ℕ} {cs : List ℕ} {i n : ℕ} (s : Sought most room cs i n) where
+  pub sought-blank : i < length cs → is_blank (coefficient cs i) ≡ true → is_digit (coefficient cs i) ≡ false → Sought most room cs (i + 1) n
+  sought-blank h b d =
+      record {
+        inside = omega arith;
+        bad = s.bad ∙ first-passed (bad_at most room cs) (length cs) i h (blank-fine most room cs i b d);
+        count = ap (λ (ns : List ℕ). n + length ns) (sym rest) ∙ s.count;
+        fits = s.fits;
+        fresh = fresh-passed cs i d;
+      }
+    where
+      rest : numbers_in (drop i cs) ≡ numbers_in (drop (i + 1) cs)
+      rest = rw (drop-cons cs i 0 h, d, add-one i)
 
-from-run : (cs : List ℕ) (i value end : ℕ) → RunAt cs i value end → number_from cs i ≡ value
-from-run cs i value end r = ap (λ (ns : List ℕ). coefficient ns 0) r.rest
+  -- the numbers that stand before the place where a run begins
+  before-run : numbers_before cs i ≡ n
+  before-run = omega (arith, s.count)
 
-run-fine : (most room : ℕ) (cs : List ℕ) (i n value end : ℕ) → value ≤ most → n < room → RunAt cs i value end → Sought most room cs i n
-    → (j : ℕ) → i ≤ j → j < end → bad_at most room cs j ≡ false
-run-fine most room cs i n value end small left r s j low high = go j low high (ℕ_discrete i j)
-  where
-    go : (j : ℕ) → i ≤ j → j < end → Dec (i ≡ j) → bad_at most room cs j ≡ false
-    go j low high (yes e) =
-        rw (← e)
-        (begun-fine most room cs i (r.all i (omega arith) r.after) (rw (from-run cs i value end r) small) (rw (before-run most room cs i n value end r s) left))
-    go zero low high (no e) = absurd (e (omega arith))
-    go (suc j) low high (no e) = inner-fine most room cs (suc j) (r.all (suc j) low high) (r.all j (omega arith) (omega arith))
+  module _ {value end : ℕ} (r : RunAt cs i value end) (small : value ≤ most) where
+    low : number_from cs i ≤ most
+    low = rw (from-run r) small
 
-pub sought-run : (most room : ℕ) (cs : List ℕ) (i n value end : ℕ) → value ≤ most → n < room → RunAt cs i value end → Sought most room cs i n
-    → Sought most room cs end (n + 1)
-sought-run most room cs i n value end small left r s =
-    let size : i + (end - i) ≡ end = omega (arith, r.after) in
-    record {
-      inside = r.inside;
-      bad = s.bad ∙ (rw size at (skip (bad_at most room cs) (length cs) i (end - i) (rw size r.inside) (λ j a b. run-fine most room cs i n value end small left r s j a (omega arith))));
-      count = omega (arith, s.count, ap length r.rest);
-      fits = omega arith;
-      fresh = fresh-run cs i value end r;
-    }
+    begun : is_digit (coefficient cs i) ≡ true
+    begun = r.all i (omega arith) r.after
 
--- ---- where the search stops
+    module _ (left : n < room) where
+      run-fine : (j : ℕ) → i ≤ j → j < end → bad_at most room cs j ≡ false
+      run-fine j a b = go j a b (ℕ_discrete i j)
+        where
+          go : (j : ℕ) → i ≤ j → j < end → Dec (i ≡ j) → bad_at most room cs j ≡ false
+          go j a b (yes e) = rw (← e) (begun-fine most room cs i begun low (rw before-run left))
+          go zero a b (no e) = absurd (e (omega arith))
+          go (suc j) a b (no e) = inner-fine most room cs (suc j) (r.all (suc j) a b) (r.all j (omega arith) (omega arith))
 
-at-bad : (most room : ℕ) (cs : List ℕ) (i n : ℕ) → i < length cs → bad_at most room cs i ≡ true → Sought most room cs i n
-    → outcome most room cs ≡ pick (stray_at cs i) (Stray i) (pick (large_at most cs i) (Large i) (Many i))
-unfolding outcome outcome_at
-at-bad most room cs i n h b s = rw (s.bad ∙ first_found (bad_at most room cs) (length cs) i h b, lt-ltb i (length cs) h)
+      pub sought-run : Sought most room cs end (n + 1)
+      sought-run =
+          let size : i + (end - i) ≡ end = omega (arith, r.after) in
+          record {
+            inside = r.inside;
+            bad = s.bad ∙ (rw size at (skip (bad_at most room cs) (length cs) i (end - i) (rw size r.inside) (λ j a b. run-fine j a (omega arith))));
+            count = omega (arith, s.count, ap length r.rest);
+            fits = omega arith;
+            fresh = fresh-run r;
+          }
 
-pub sought-stray : (most room : ℕ) (cs : List ℕ) (i n : ℕ) → i < length cs → stray_at cs i ≡ true → Sought most room cs i n → outcome most room cs ≡ Stray i
-unfolding bad_at
-sought-stray most room cs i n h e s = at-bad most room cs i n h bad s ∙ rw e
-  where
-    bad : bad_at most room cs i ≡ true
-    bad = rw e
+  -- ---- where the search stops
 
-pub sought-large : (most room : ℕ) (cs : List ℕ) (i n : ℕ) → i < length cs → is_digit (coefficient cs i) ≡ true → most < number_from cs i → Sought most room cs i n
-    → outcome most room cs ≡ Large i
-unfolding bad_at
-sought-large most room cs i n h d v s = at-bad most room cs i n h bad s ∙ rw (no, large)
-  where
-    no : stray_at cs i ≡ false
-    no = rw (digit-no-blank (coefficient cs i) d, d)
+  module _ (h : i < length cs) where
+    at-bad : bad_at most room cs i ≡ true → outcome most room cs ≡ Err (pick (stray_at cs i) (Stray i) (pick (large_at most cs i) (Large i) (Many i)))
+    unfolding outcome outcome_at
+    at-bad b = rw (s.bad ∙ first_found (bad_at most room cs) (length cs) i h b, lt-ltb i (length cs) h)
 
-    large : large_at most cs i ≡ true
-    large = rw (d, s.fresh d, lt-ltb most (number_from cs i) v)
+    pub sought-stray : stray_at cs i ≡ true → outcome most room cs ≡ Err (Stray i)
+    unfolding bad_at
+    sought-stray e =
+        let bad : bad_at most room cs i ≡ true = rw e in
+        at-bad bad ∙ rw e
 
-    bad : bad_at most room cs i ≡ true
-    bad = rw (no, large)
+    module _ (d : is_digit (coefficient cs i) ≡ true) where
+      no-stray : stray_at cs i ≡ false
+      no-stray = rw (digit-no-blank (coefficient cs i) d, d)
 
-pub sought-many : (most room : ℕ) (cs : List ℕ) (i n value end : ℕ) → i < length cs → value ≤ most → room ≤ n → RunAt cs i value end → Sought most room cs i n
-    → outcome most room cs ≡ Many i
-unfolding bad_at
-sought-many most room cs i n value end h small full r s = at-bad most room cs i n h bad s ∙ rw (no, fits)
-  where
-    d : is_digit (coefficient cs i) ≡ true
-    d = r.all i (omega arith) r.after
+      pub sought-large : most < number_from cs i → outcome most room cs ≡ Err (Large i)
+      unfolding bad_at
+      sought-large v =
+          let large : large_at most cs i ≡ true = rw (d, s.fresh d, lt-ltb most (number_from cs i) v) in
+          let bad : bad_at most room cs i ≡ true = rw (no-stray, large) in
+          at-bad bad ∙ rw (no-stray, large)
 
-    no : stray_at cs i ≡ false
-    no = rw (digit-no-blank (coefficient cs i) d, d)
+    pub sought-many : {value end : ℕ} → RunAt cs i value end → value ≤ most → room ≤ n → outcome most room cs ≡ Err (Many i)
+    unfolding bad_at
+    sought-many r small full =
+        let d = begun r small in
+        let none = no-stray d in
+        let fits : large_at most cs i ≡ false = rw (d, s.fresh d, le-ltb most (number_from cs i) (low r small)) in
+        let many : many_at room cs i ≡ true = rw (d, s.fresh d, le-leb room (numbers_before cs i) (rw before-run full)) in
+        let bad : bad_at most room cs i ≡ true = rw (none, fits, many) in
+        at-bad bad ∙ rw (none, fits)
 
-    fits : large_at most cs i ≡ false
-    fits = rw (d, s.fresh d, le-ltb most (number_from cs i) (rw (from-run cs i value end r) small))
-
-    many : many_at room cs i ≡ true
-    many = rw (d, s.fresh d, le-leb room (numbers_before cs i) (rw (before-run most room cs i n value end r s) full))
-
-    bad : bad_at most room cs i ≡ true
-    bad = rw (no, fits, many)
-
-pub sought-ended : (most room : ℕ) (cs : List ℕ) (i n : ℕ) → length cs ≤ i → Sought most room cs i n → outcome most room cs ≡ Count n
-unfolding outcome outcome_at
-sought-ended most room cs i n h s =
-    let all : n ≡ length (numbers_in cs) = omega (arith, s.count, ap (λ (xs : List ℕ). length (numbers_in xs)) (drop_of_length-le cs {i = i} h)) in
-    rw (s.bad ∙ first_ended (bad_at most room cs) (length cs) i h, le-ltb i (length cs) h, all)
+  pub sought-ended : length cs ≤ i → outcome most room cs ≡ Ok n
+  unfolding outcome outcome_at
+  sought-ended h =
+      let all : n ≡ length (numbers_in cs) = omega (arith, s.count, ap (λ (xs : List ℕ). length (numbers_in xs)) (drop_of_length-le cs {i = i} h)) in
+      rw (s.bad ∙ first_ended (bad_at most room cs) (length cs) i h, le-ltb i (length cs) h, all)
 
 -- ---- the numbers, written
 
@@ -280,20 +265,6 @@ pub record Writing (cs : List ℕ) (i n : ℕ) (old now : List ℕ) : Type 0 whe
   pub listed : now ≡ filled n (coefficient (numbers_in cs)) old
   pub fresh : is_digit (coefficient cs i) ≡ true → follows_digit cs i ≡ false
 
-pub writing_begins : (cs old : List ℕ) → Writing cs 0 0 old old
-writing_begins cs old = record { inside = omega arith; some = omega arith; rest = refl; listed = refl; fresh = λ d. refl }
-
-pub writing-passed : (cs : List ℕ) (i n : ℕ) (old now : List ℕ) → i < length cs → is_digit (coefficient cs i) ≡ false → Writing cs i n old now
-    → Writing cs (i + 1) n old now
-writing-passed cs i n old now h d w =
-    record {
-      inside = omega arith;
-      some = w.some;
-      rest = w.rest ∙ (rw (drop-cons cs i 0 h, d, add-one i));
-      listed = w.listed;
-      fresh = fresh-passed cs i d;
-    }
-
 next-number : (ns : List ℕ) (n value : ℕ) (rest : List ℕ) → drop n ns ≡ value ∷ rest → (n < length ns) × (value ≡ coefficient ns n) × (drop (suc n) ns ≡ rest)
 next-number [] zero value rest e = absurd (omega (arith, ap length e))
 next-number [] (suc n) value rest e = absurd (omega (arith, ap length e))
@@ -301,18 +272,6 @@ next-number (x ∷ ns) zero value rest e = (omega arith, sym (ap (λ (l : List �
 next-number (x ∷ ns) (suc n) value rest e =
     let r = next-number ns n value rest e in
     (omega (arith, r.0), r.1, r.2)
-
-pub writing-run : (cs : List ℕ) (i n value end : ℕ) (old now : List ℕ) → n < length old → RunAt cs i value end → Writing cs i n old now
-    → Writing cs end (n + 1) old (set now n value)
-writing-run cs i n value end old now room r w =
-    let one = next-number (numbers_in cs) n value (numbers_in (drop end cs)) (w.rest ∙ r.rest) in
-    record {
-      inside = r.inside;
-      some = omega (arith, one.0);
-      rest = rw (add-one n) one.2;
-      listed = filled_more (coefficient (numbers_in cs)) old now n value room w.listed one.1;
-      fresh = fresh-run cs i value end r;
-    }
 
 -- where nothing is bad, a number that begins is not too large, and there is room for it
 begun-clean : (most room : ℕ) (cs : List ℕ) (i : ℕ) → is_digit (coefficient cs i) ≡ true → follows_digit cs i ≡ false → bad_at most room cs i ≡ false
@@ -326,50 +285,68 @@ pub clean-small : (most room : ℕ) (cs : List ℕ) (i : ℕ) → i < length cs 
     → number_from cs i ≤ most
 clean-small most room cs i h d f clean = (begun-clean most room cs i d f (clean i h)).0
 
-pub writing-room : (most : ℕ) (cs : List ℕ) (i n value end : ℕ) (old now : List ℕ) → Clean most (length old) cs → RunAt cs i value end → Writing cs i n old now
-    → n < length old
-writing-room most cs i n value end old now clean r w =
-    let d = r.all i (omega arith) r.after in
-    let room = (begun-clean most (length old) cs i d (w.fresh d) (clean i (omega (arith, r.after, r.inside)))).1 in
-    let one = next-number (numbers_in cs) n value (numbers_in (drop end cs)) (w.rest ∙ r.rest) in
-    omega (arith, room, one.0, ap length w.rest, length-drop n (numbers_in cs))
+pub writing_begins : (cs old : List ℕ) → Writing cs 0 0 old old
+writing_begins cs old = record { inside = omega arith; some = omega arith; rest = refl; listed = refl; fresh = λ d. refl }
 
-pub writing-ended : (cs : List ℕ) (i n : ℕ) (old now : List ℕ) → length cs ≤ i → Writing cs i n old now → NumbersStand (numbers_in cs) old now
-writing-ended cs i n old now h w =
-    let ns : List ℕ = numbers_in cs in
-    let none : length (numbers_in (drop i cs)) ≡ 0 = rw (drop_of_length-le cs {i = i} h) in
-    let all : n ≡ length ns = omega (arith, length-drop n ns, ap length w.rest, none, w.some) in
-    w.listed ∙ ap (λ (m : ℕ). filled m (coefficient ns) old) all ∙ ap (λ (xs : List ℕ). xs ++ drop (length ns) old) (coefficients ns)
+module _ {cs : List ℕ} {i n : ℕ} {old now : List ℕ} (w : Writing cs i n old now) where
+  pub writing-passed : i < length cs → is_digit (coefficient cs i) ≡ false → Writing cs (i + 1) n old now
+  writing-passed h d =
+      record {
+        inside = omega arith;
+        some = w.some;
+        rest = w.rest ∙ (rw (drop-cons cs i 0 h, d, add-one i));
+        listed = w.listed;
+        fresh = fresh-passed cs i d;
+      }
+
+  pub writing-small : (most : ℕ) → i < length cs → is_digit (coefficient cs i) ≡ true → Clean most (length old) cs → number_from cs i ≤ most
+  writing-small most h d clean = (begun-clean most (length old) cs i d (w.fresh d) (clean i h)).0
+
+  module _ {value end : ℕ} (r : RunAt cs i value end) where
+    one : (n < length (numbers_in cs)) × (value ≡ coefficient (numbers_in cs) n) × (drop (suc n) (numbers_in cs) ≡ numbers_in (drop end cs))
+    one = next-number (numbers_in cs) n value (numbers_in (drop end cs)) (w.rest ∙ r.rest)
+
+    pub writing-room : (most : ℕ) → Clean most (length old) cs → n < length old
+    writing-room most clean =
+        let d = r.all i (omega arith) r.after in
+        let room = (begun-clean most (length old) cs i d (w.fresh d) (clean i (omega (arith, r.after, r.inside)))).1 in
+        omega (arith, room, one.0, ap length w.rest, length-drop n (numbers_in cs))
+
+    pub writing-run : n < length old → Writing cs end (n + 1) old (set now n value)
+    writing-run room =
+        record {
+          inside = r.inside;
+          some = omega (arith, one.0);
+          rest = rw (add-one n) one.2;
+          listed = filled_more (coefficient (numbers_in cs)) old now n value room w.listed one.1;
+          fresh = fresh-run r;
+        }
+
+  pub writing-ended : length cs ≤ i → NumbersStand (numbers_in cs) old now
+  writing-ended h =
+      let ns : List ℕ = numbers_in cs in
+      let none : length (numbers_in (drop i cs)) ≡ 0 = rw (drop_of_length-le cs {i = i} h) in
+      let all : n ≡ length ns = omega (arith, length-drop n ns, ap length w.rest, none, w.some) in
+      w.listed ∙ ap (λ (m : ℕ). filled m (coefficient ns) old) all ∙ ap (λ (xs : List ℕ). xs ++ drop (length ns) old) (coefficients ns)
 
 -- ---- the whole reading
 
-abbrev is_count : Numbers → Bool
-is_count (Count n) = true
-is_count (Stray i) = false
-is_count (Large i) = false
-is_count (Many i) = false
-
-pub counted-clean : (most room : ℕ) (cs : List ℕ) (n : ℕ) → outcome most room cs ≡ Count n → Clean most room cs
+pub counted-clean : (most room : ℕ) (cs : List ℕ) (n : ℕ) → outcome most room cs ≡ Ok n → Clean most room cs
 unfolding outcome outcome_at
 counted-clean most room cs n e = (first-none (bad_at most room cs) (length cs)).0 (go (dec_lt bad (length cs)))
   where
     bad : ℕ
     bad = first (bad_at most room cs) (length cs) 0
 
-    never : (s l : Bool) → pick s (Stray bad) (pick l (Large bad) (Many bad)) ≡ Count n → ⊥
-    never true l h = true≢false (sym (ap is_count h))
-    never false true h = true≢false (sym (ap is_count h))
-    never false false h = true≢false (sym (ap is_count h))
-
     go : Dec (bad < length cs) → length cs ≤ bad
-    go (yes l) = absurd (never (stray_at cs bad) (large_at most cs bad) (rw (lt-ltb bad (length cs) l) at e))
+    go (yes l) = let stopped = rw (lt-ltb bad (length cs) l) at e in cc
     go (no l) = omega arith
 
-pub reads-list : (most : ℕ) (cs old : List ℕ) (found : Numbers) (n : ℕ) (after : List ℕ) → found ≡ outcome most (length old) cs → found ≡ Count n
-    → NumbersStand (numbers_in cs) old after → ReadsNumbers most cs old (Count n) after
+pub reads-list : (most : ℕ) (cs old : List ℕ) (found : Result ℕ Stop) (n : ℕ) (after : List ℕ) → found ≡ outcome most (length old) cs → found ≡ Ok n
+    → NumbersStand (numbers_in cs) old after → ReadsNumbers most cs old (Ok n) after
 reads-list most cs old found n after o e l = record { answer = sym e ∙ o; list = rw (sym o ∙ e) l }
 
 -- where reading stops the list is left
-pub reads_nothing : (most : ℕ) (cs old : List ℕ) (found r : Numbers) → found ≡ outcome most (length old) cs → found ≡ r → old ≡ left_of r (numbers_in cs) old
+pub reads_nothing : (most : ℕ) (cs old : List ℕ) (found r : Result ℕ Stop) → found ≡ outcome most (length old) cs → found ≡ r → old ≡ left_of r (numbers_in cs) old
     → ReadsNumbers most cs old r old
 reads_nothing most cs old found r o e l = record { answer = sym e ∙ o; list = rw (sym o ∙ e) l }

@@ -4,3 +4,4 @@
 pub mod kinds;
 pub mod putting;
 pub mod reading;
+pub mod whole;

@@ -1,10 +1,11 @@
-// Text is put into a lent buffer from a place on, and each call answers the place for the next. Where the buffer ends first, what has room stands
-// there, and the place is one more than the buffer has: so one test at the end tells whether all had room.
-ghost use Rattle.std.specs.Prelude.{[], ◌∷◌};
+// Text is put into a lent buffer from a place on, since there is no heap, and each call answers the place for the next. Where the buffer ends first, what
+// has room stands there, and the place is one more than the buffer has: so one test at the end tells whether all had room.
+ghost use Rattle.std.specs.Prelude.{[], ◌∷◌, map};
 ghost use Rattle.layout.specs.Decimals.{decimal};
 ghost use Rattle.texts.specs.Putting.{spaced, refused_text, Puts};
 
-use settings::refusals::Refusal;
+use crate::whole::Whole;
+use settings::refusals::Numbered;
 
 // The digits of the largest number.
 const MOST_DIGITS: usize = 20;
@@ -16,19 +17,17 @@ pub fn put(text: &[u8], out: &mut [u8], at: usize) -> usize
     if size < at {
         return size + 1;
     }
-    let mut i = 0;
-    while i < text.len() {
+    for (i, byte) in text.iter().enumerate() {
         let place = at + i;
         if size <= place {
             return size + 1;
         }
-        out[place] = text[i];
-        i += 1;
+        out[place] = *byte;
     }
-    at + i
+    at + text.len()
 }
 
-// Its digits, from the last one on.
+// Its digits, from the last one on. The loop ends where nothing is left: a `for` over the places would go on to a return that no number reaches.
 pub fn put_number(n: u64, out: &mut [u8], at: usize) -> usize
     ensures { Puts at (decimal n) out.old result out.new }
 {
@@ -37,8 +36,8 @@ pub fn put_number(n: u64, out: &mut [u8], at: usize) -> usize
     let mut i = MOST_DIGITS;
     loop {
         i -= 1;
-        bytes[i] = 48 + (rest % 10) as u8;
-        rest = rest / 10;
+        bytes[i] = b'0' + (rest % 10) as u8;
+        rest /= 10;
         if rest == 0 {
             return put(&bytes[i..], out, at);
         }
@@ -53,34 +52,19 @@ pub fn put_spaced(n: u64, out: &mut [u8], at: usize) -> usize
     put_number(n, out, next)
 }
 
-// Coefficients, a space before each. A place that is too far is answered as the one after the last, also where the list is empty.
-pub fn put_list(ns: &[u16], out: &mut [u8], at: usize) -> usize
-    ensures { Puts at (spaced ns.now) out.old result out.new }
+// Numbers, a space before each. A place that is too far is answered as the one after the last, also where the list is empty.
+pub fn put_list<T: Whole>(ns: &[T], out: &mut [u8], at: usize) -> usize
+    ensures { Puts at (spaced (map T.value ns.now)) out.old result out.new }
 {
     let mut next = put(b"", out, at);
-    let mut i = 0;
-    while i < ns.len() {
-        next = put_spaced(ns[i] as u64, out, next);
-        i += 1;
-    }
-    next
-}
-
-// The same of words.
-pub fn put_words(ns: &[u64], out: &mut [u8], at: usize) -> usize
-    ensures { Puts at (spaced ns.now) out.old result out.new }
-{
-    let mut next = put(b"", out, at);
-    let mut i = 0;
-    while i < ns.len() {
-        next = put_spaced(ns[i], out, next);
-        i += 1;
+    for n in ns {
+        next = put_spaced(n.value(), out, next);
     }
     next
 }
 
 // `refused`, number and place.
-pub fn put_refusal(why: Refusal, out: &mut [u8], at: usize) -> usize
+pub fn put_refusal(why: Numbered, out: &mut [u8], at: usize) -> usize
     ensures { Puts at (refused_text why.number why.place) out.old result out.new }
 {
     let number = put(b"refused", out, at);

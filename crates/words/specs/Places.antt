@@ -15,18 +15,17 @@
 --     Reduces s w r               the promise of reduce
 --     check-word-once, check-words-once, unpack-once, shifted-residues-once, reduce-once
 --                                 each promise allows one answer, and one list, only
-use Rattle.std.specs.Prelude.{ℕ, ◌^◌, ◌≡◌, Bool, List, [], ◌∷◌, ◌++◌, leb, length}
+use Rattle.std.specs.Prelude.{ℕ, ◌^◌, ◌≡◌, Bool, List, [], ◌∷◌, ◌++◌, leb, length, Result}
 use Rattle.polynomials.specs.Indices.{upto, first, some}
 use Rattle.polynomials.specs.Lists.{coefficient}
 use Rattle.polynomials.specs.Places.{packed, fields, shifted, reduced}
 use Rattle.settings.specs.Answers.{Answer, answered, Verdict, refuse, ◌and_then◌, Given}
 use Rattle.settings.specs.AnswerLaws.{given-value, given-check, given-then}
-use Rattle.settings.specs.SharedAnswers.{packed_says, packed-once, short_cause, Writes, writes-once}
-use Rattle.settings.specs.Settings.{setting_checks, setting_numbers, setting-gives, base, places, span_of, checked_says, checked-once}
+use Rattle.settings.specs.SharedAnswers.{short_cause, Writes, writes-once}
+use Rattle.settings.specs.Settings.{setting_checks, setting_numbers, setting-gives, base, places, span_of}
 use Rattle.settings.specs.declared.setting.Setting.{Setting}
-use Rattle.settings.specs.declared.setting.Checked.{Checked}
-use Rattle.settings.specs.declared.answers.Packed.{Packed}
-use Rattle.settings.specs.declared.answers.Wrote.{Wrote}
+use Rattle.settings.specs.Refusals.{says, says-once}
+use Rattle.settings.specs.declared.refusals.Refusal.{Refusal}
 
 abbrev pub word_cause : Setting → ℕ → Bool
 word_cause s w = leb (2 ^ span_of s) w
@@ -63,32 +62,32 @@ places-gives s w len = given-then (word-gives s w) (given-check (short_cause (pl
 
 -- ---- 11 alone
 
-abbrev pub ChecksWord : Setting → ℕ → Checked → Type 0
-ChecksWord s w r = checked_says r ≡ word_checks s w
+abbrev pub ChecksWord : Setting → ℕ → Result (Unit {0}) Refusal → Type 0
+ChecksWord s w r = says r ≡ word_checks s w
 
-pub check-word-once : (s : Setting) (w : ℕ) (a b : Checked) → ChecksWord s w a → ChecksWord s w b → a ≡ b
-check-word-once s w a b = checked-once a b (word_checks s w)
+pub check-word-once : (s : Setting) (w : ℕ) (a b : Result (Unit {0}) Refusal) → ChecksWord s w a → ChecksWord s w b → a ≡ b
+check-word-once s w a b = says-once a b (word_checks s w)
 
-abbrev pub ChecksWords : Setting → List ℕ → Checked → Type 0
-ChecksWords s ws r = checked_says r ≡ words_checks s ws
+abbrev pub ChecksWords : Setting → List ℕ → Result (Unit {0}) Refusal → Type 0
+ChecksWords s ws r = says r ≡ words_checks s ws
 
-pub check-words-once : (s : Setting) (ws : List ℕ) (a b : Checked) → ChecksWords s ws a → ChecksWords s ws b → a ≡ b
-check-words-once s ws a b = checked-once a b (words_checks s ws)
+pub check-words-once : (s : Setting) (ws : List ℕ) (a b : Result (Unit {0}) Refusal) → ChecksWords s ws a → ChecksWords s ws b → a ≡ b
+check-words-once s ws a b = says-once a b (words_checks s ws)
 
 -- ---- unpack
 
-abbrev pub Unpacks : Setting → ℕ → List ℕ → Wrote → List ℕ → Type 0
+abbrev pub Unpacks : Setting → ℕ → List ℕ → Result ℕ Refusal → List ℕ → Type 0
 Unpacks s w old r after = Writes (places_checks s w (length old)) (fields (base s) (places s) w) old r after
 
-pub unpack-once : (s : Setting) (w : ℕ) (old : List ℕ) (a b : Wrote) (x y : List ℕ) → Unpacks s w old a x → Unpacks s w old b y → (a ≡ b) × (x ≡ y)
+pub unpack-once : (s : Setting) (w : ℕ) (old : List ℕ) (a b : Result ℕ Refusal) (x y : List ℕ) → Unpacks s w old a x → Unpacks s w old b y → (a ≡ b) × (x ≡ y)
 unpack-once s w old = writes-once (places_checks s w (length old)) (fields (base s) (places s) w) old
 
 -- ---- shifted residues
 
-abbrev pub ShiftedResidues : Setting → ℕ → List ℕ → Wrote → List ℕ → Type 0
+abbrev pub ShiftedResidues : Setting → ℕ → List ℕ → Result ℕ Refusal → List ℕ → Type 0
 ShiftedResidues s w old r after = Writes (places_checks s w (length old)) (upto (places s) (shifted s.p (base s) w)) old r after
 
-pub shifted-residues-once : (s : Setting) (w : ℕ) (old : List ℕ) (a b : Wrote) (x y : List ℕ) → ShiftedResidues s w old a x → ShiftedResidues s w old b y
+pub shifted-residues-once : (s : Setting) (w : ℕ) (old : List ℕ) (a b : Result ℕ Refusal) (x y : List ℕ) → ShiftedResidues s w old a x → ShiftedResidues s w old b y
     → (a ≡ b) × (x ≡ y)
 shifted-residues-once s w old = writes-once (places_checks s w (length old)) (upto (places s) (shifted s.p (base s) w)) old
 
@@ -104,8 +103,8 @@ pub reduce-gives : (s : Setting) (w : ℕ) → Given (setting_numbers ++ (11 ∷
 unfolding reduce_answer
 reduce-gives s w = given-then (word-gives s w) (given-value (reduced_word s w))
 
-abbrev pub Reduces : Setting → ℕ → Packed → Type 0
-Reduces s w r = packed_says r ≡ reduce_answer s w
+abbrev pub Reduces : Setting → ℕ → Result ℕ Refusal → Type 0
+Reduces s w r = says r ≡ reduce_answer s w
 
-pub reduce-once : (s : Setting) (w : ℕ) (a b : Packed) → Reduces s w a → Reduces s w b → a ≡ b
-reduce-once s w a b = packed-once a b (reduce_answer s w)
+pub reduce-once : (s : Setting) (w : ℕ) (a b : Result ℕ Refusal) → Reduces s w a → Reduces s w b → a ≡ b
+reduce-once s w a b = says-once a b (reduce_answer s w)

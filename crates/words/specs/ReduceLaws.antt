@@ -4,7 +4,7 @@
 --     reduce-identity     document 003's: it is (u_i - q u_(i+1)) mod p, for the u that shifted residues writes
 --     reduce-last         the last field is the last u
 --     reduce-divides      where p divides q, every field is its u. Elsewhere it need not be: shifted-no-residue of polynomials
-use Rattle.std.specs.Prelude.{ℕ, suc, ◌-◌, ◌*◌, ◌^◌, ◌<◌, ◌≡◌, List, length, drop}
+use Rattle.std.specs.Prelude.{ℕ, suc, ◌-◌, ◌*◌, ◌^◌, ◌<◌, ◌≡◌, List, length, drop, Ok}
 use Rattle.std.specs.Int.{◌∣◌}
 use Rattle.std.proofs.Common.{sym, ap, ◌∙◌, arith, pow_pos}
 use Rattle.std.proofs.Math.ListN.{get_or-append}
@@ -18,27 +18,25 @@ use Rattle.settings.specs.Settings.{base, places}
 use Rattle.words.specs.Places.{word_checks, places_checks, ShiftedResidues, reduced_word, reduce_answer, Reduces}
 use Rattle.words.specs.WordLaws.{WordFits, word-checked}
 use Rattle.settings.specs.declared.setting.Setting.{Setting}
-use Rattle.settings.specs.declared.answers.Packed.TheVariants.{Word}
-use Rattle.settings.specs.declared.answers.Wrote.TheVariants.{Count}
 
-pub reduce-checked : (s : Setting) (w v : ℕ) → Reduces s w (Word v) → WordFits s w × (v ≡ reduced_word s w)
+pub reduce-checked : (s : Setting) (w v : ℕ) → Reduces s w (Ok v) → WordFits s w × (v ≡ reduced_word s w)
 unfolding reduce_answer
 reduce-checked s w v e =
     let a = passed_first (word_checks s w) _ v (sym e) in
     (word-checked s w a.0, cc a.1)
 
-pub reduce-field : (s : Setting) (w v i : ℕ) → Reduces s w (Word v) → i < places s → field (base s) v i ≡ reduced s.p (base s) w i
+pub reduce-field : (s : Setting) (w v i : ℕ) → Reduces s w (Ok v) → i < places s → field (base s) v i ≡ reduced s.p (base s) w i
 reduce-field s w v i e h = rw (reduce-checked s w v e).1 (field-reduced s.p (base s) (places s) w i (pow_pos s.t) h)
 
 -- what shifted residues has written at place i
-shifted_at : (s : Setting) (w m i : ℕ) (old us : List ℕ) → ShiftedResidues s w old (Count m) us → i < places s → coefficient us i ≡ shifted s.p (base s) w i
+shifted_at : (s : Setting) (w m i : ℕ) (old us : List ℕ) → ShiftedResidues s w old (Ok m) us → i < places s → coefficient us i ≡ shifted s.p (base s) w i
 shifted_at s w m i old us e h =
     let u = shifted s.p (base s) w in
     let fine-checks = (passed_first (places_checks s w (length old)) _ m (sym e.0)).0 in
     ap (λ (l : List ℕ). coefficient l i) e.1
     ∙ rw fine-checks (get_or-append (upto (places s) u) (drop (length (upto (places s) u)) old) 0 i (rw length-upto h) ∙ upto-at (places s) u i h)
 
-module _ (s : Setting) (w v m : ℕ) (old us : List ℕ) (reduces : Reduces s w (Word v)) (shifts : ShiftedResidues s w old (Count m) us) where
+module _ (s : Setting) (w v m : ℕ) (old us : List ℕ) (reduces : Reduces s w (Ok v)) (shifts : ShiftedResidues s w old (Ok m) us) where
   u-at : (i : ℕ) → i < places s → coefficient us i ≡ shifted s.p (base s) w i
   u-at i h = shifted_at s w m i old us shifts h
 

@@ -1,96 +1,71 @@
-// The loops on a word's fields, and what they are made of. Nothing is refused here: each function states what it assumes, of the numbers it is given and
-// not of the rule that accepted them.
-ghost use Rattle.std.specs.Prelude.{◌≡◌, ◌-◌, ◌*◌, ◌^◌, ◌<◌, ◌≤◌, length};
-ghost use Rattle.polynomials.specs.Indices.{upto, filled};
-ghost use Rattle.polynomials.specs.Places.{packed, field, shifted, reduced};
-ghost use Rattle.settings.specs.Limits.{largest_modulus, most_coefficients, word_bits};
-ghost use Rattle.settings.specs.Bounds.{Bounds};
-ghost use Rattle.words.specs.Places.{word_cause, first_bad_word};
+// The loops on a word's fields, in an accepted setting. Nothing is refused here.
+ghost use Rattle.std.specs.Prelude.{◌≡◌, ◌≤◌, length};
+ghost use Rattle.polynomials.specs.Indices.{upto, filled, found};
+ghost use Rattle.polynomials.specs.Places.{field, shifted};
+ghost use Rattle.settings.specs.Settings.{base, places};
+ghost use Rattle.words.specs.Places.{word_cause, first_bad_word, reduced_word};
 
-use settings::setting::Setting;
-
-// 2^t
-fn power(t: u64) -> u64
-    requires { t < word_bits }
-    ensures { result ≡ 2 ^ t }
-{
-    1u64 << t
-}
-
-// 2k-1
-pub fn places(k: u64) -> usize
-    requires { (1 ≤ k) × (k ≤ most_coefficients) }
-    ensures { result ≡ 2 * k - 1 }
-{
-    (2 * k - 1) as usize
-}
+use settings::accepted::Accepted;
 
 // 11 Word. What stands from the last place on is one field, so it has to be below q; no power above the word's bits is formed.
-pub fn word_cause(s: Setting, word: u64) -> bool
-    requires { Bounds s }
-    ensures { result ≡ word_cause s word }
+pub fn word_cause(s: Accepted, word: u64) -> bool
+    ensures { result ≡ word_cause s.setting word }
 {
-    power(s.t) <= word >> ((2 * s.k - 2) * s.t)
+    s.base() <= word >> ((2 * s.setting.k - 2) * s.setting.t)
 }
 
-// The index of the first word that meets 11, or the list's length where there is none.
-pub fn first_bad_word(s: Setting, words: &[u64]) -> usize
-    requires { Bounds s }
-    ensures { result ≡ first_bad_word s words.now }
+// The index of the first word that meets 11.
+pub fn first_bad_word(s: Accepted, words: &[u64]) -> Option<usize>
+    ensures { result ≡ found (first_bad_word s.setting words.now) (length words.now) }
 {
-    let mut i = 0;
-    while i < words.len() {
-        if word_cause(s, words[i]) {
-            return i;
+    for (i, word) in words.iter().enumerate() {
+        if word_cause(s, *word) {
+            return Some(i);
         }
-        i += 1;
     }
-    i
+    None
 }
 
-// The m lowest fields of the word, into the first m elements.
-pub fn split_fields(t: u64, m: usize, word: u64, out: &mut [u64])
-    requires { (t < word_bits) × (m ≤ length out.old) }
-    ensures { out.new ≡ filled m (field (2 ^ t) word) out.old }
+// The fields of the word, into the first elements.
+pub fn split_fields(s: Accepted, word: u64, out: &mut [u64])
+    requires { places s.setting ≤ length out.old }
+    ensures { out.new ≡ filled (places s.setting) (field (base s.setting) word) out.old }
 {
-    let q = power(t);
+    let q = s.base();
+    let m = s.places();
     let mut rest = word;
-    let mut i = 0;
-    while i < m {
+    for i in 0..m {
         out[i] = rest % q;
-        rest = rest >> t;
-        i += 1;
+        rest = rest >> s.setting.t;
     }
 }
 
-// The u of the m lowest places, into the first m elements, from one division by p: document 003's algorithm 2. Word and quotient are
-// shifted together, so that at place i the one less p times the other is the remainder of what stands from there on.
-pub fn split_shifted(p: u64, t: u64, m: usize, word: u64, out: &mut [u16])
-    requires { (0 < p) × (p ≤ largest_modulus) × (t < word_bits) × (m ≤ length out.old) }
-    ensures { out.new ≡ filled m (shifted p (2 ^ t) word) out.old }
+// The u of each place, into the first elements, from one division by p. Word and quotient are shifted together, so that at place i the one less p times the
+// other is the remainder of what stands from there on.
+pub fn split_shifted(s: Accepted, word: u64, out: &mut [u16])
+    requires { places s.setting ≤ length out.old }
+    ensures { out.new ≡ filled (places s.setting) (shifted s.setting.p (base s.setting) word) out.old }
 {
+    let p = s.setting.p;
+    let t = s.setting.t;
     let mut rest = word;
     let mut quotient = word / p;
-    let mut i = 0;
-    while i < m {
+    for i in 0..s.places() {
         out[i] = (rest - p * quotient) as u16;
         rest = rest >> t;
         quotient = quotient >> t;
-        i += 1;
     }
 }
 
-// The word of the m lowest fields modulo p, each by its own remainder, from the highest place down.
-pub fn reduce_fields(p: u64, t: u64, m: usize, word: u64) -> u64
-    requires { (0 < p) × (t < word_bits) × ((m - 1) * t < word_bits) }
-    ensures { result ≡ packed (2 ^ t) (upto m (reduced p (2 ^ t) word)) }
+// The word of the fields modulo p, each by its own remainder, from the highest place down.
+pub fn reduce_fields(s: Accepted, word: u64) -> u64
+    ensures { result ≡ reduced_word s.setting word }
 {
-    let q = power(t);
-    let mut w = 0u64;
-    let mut i = m;
-    while 0 < i {
-        i -= 1;
-        w = w * q + (word >> (i as u64 * t)) % q % p;
+    let p = s.setting.p;
+    let q = s.base();
+    let mut w = 0;
+    for i in (0..s.places()).rev() {
+        w = w * q + (word >> (i as u64 * s.setting.t)) % q % p;
     }
     w
 }

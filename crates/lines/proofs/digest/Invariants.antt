@@ -1,10 +1,6 @@
--- `digest` ends, reads within the list, and forms no number above 64 bits. Assumes nothing.
-use Prim.Native.Nat.{◌-◌, ◌≤◌, ◌<◌}
-use lib.ListN.{length}
+-- `digest` forms no number above 64 bits. Assumes nothing.
+use Rattle.std.proofs.Common.{◌<◌}
 use Rattle.lines.proofs.digest.Given as goal
 
-abbrev pub invariant-loop-i : goal.invariant-loop-i
-invariant-loop-i l = (l.i ≤ length l.xs) × (l.sum < 1000003)
-
-abbrev pub decreases-loop-i : goal.decreases-loop-i
-decreases-loop-i l = length l.xs - l.i
+abbrev pub invariant-loop-x : goal.invariant-loop-x
+invariant-loop-x l = l.sum < 1000003

@@ -1,9 +1,6 @@
--- `digest` ends, and its sum fits: it stays below the modulus. Assumes nothing.
-use Rattle.std.proofs.Common.{◌-◌, ◌<◌, length}
+-- The sum of `digest` fits: it stays below the modulus. Assumes nothing.
+use Rattle.std.proofs.Common.{◌<◌}
 use Rattle.calc.proofs.shown.digest.Given as goal
 
-abbrev pub invariant-loop-i : goal.invariant-loop-i
-invariant-loop-i l = l.sum < 1000003
-
-abbrev pub decreases-loop-i : goal.decreases-loop-i
-decreases-loop-i l = length l.xs - l.i
+abbrev pub invariant-loop-x : goal.invariant-loop-x
+invariant-loop-x g l = l.sum < 1000003

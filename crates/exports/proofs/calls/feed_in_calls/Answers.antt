@@ -1,8 +1,6 @@
 -- `feed_in_calls` meets its contract: where the lists are cut, a call's coefficients are no more than all of them. Assumes nothing.
-use Prim.Native.Nat.{ℕ, ◌*◌, ◌/◌, ◌≤◌}
-use native.Mathlib.Nat.{mul-le-mul_right, mul-pos, div-add-mod'}
-use native.Mathlib.Omega.{arith}
-use lib.ListN.{length}
+use Rattle.std.proofs.Common.{ℕ, ◌*◌, ◌/◌, ◌≤◌, length, mul-le-mul_right, mul-pos, arith}
+use native.Mathlib.Nat.{div-add-mod'}
 use Rattle.settings.specs.Bounds.{bounds}
 use Rattle.exports.proofs.calls.feed_in_calls.Goals.{Start}
 use Rattle.exports.proofs.calls.feed_in_calls.Goals as goal

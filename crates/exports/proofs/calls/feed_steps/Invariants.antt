@@ -1,11 +1,7 @@
 -- `feed_steps` meets its contract: after each turn, what was fed is the lists up to a place, as one call would have it. Assumes nothing.
-use Prim.Native.Nat.{◌-◌, ◌≤◌}
-use lib.ListN.{length, take}
+use Rattle.std.proofs.Common.{take}
 use Rattle.exports.specs.SumLaws.{FedTo}
 use Rattle.exports.proofs.calls.feed_steps.Given as goal
 
 abbrev pub invariant-loop-at : goal.invariant-loop-at
-invariant-loop-at l = (l.at ≤ length l.xs) × FedTo l.running (take l.at l.xs) (take l.at l.ys) l.so_far l.pairs
-
-abbrev pub decreases-loop-at : goal.decreases-loop-at
-decreases-loop-at l = length l.xs - l.at
+invariant-loop-at l = FedTo l.running (take l.at l.xs) (take l.at l.ys) l.so_far l.pairs

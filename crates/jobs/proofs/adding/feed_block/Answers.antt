@@ -1,9 +1,5 @@
 -- `feed_block` meets its contract. Assumes nothing.
-use mathlib.Core.Path.{◌≡◌, sym}
-use native.Mathlib.Omega.{arith}
-use lib.ListN.{length}
-use lib.Seq.{length-take-le}
-use borrow.Author.Rules.{rules}
+use Rattle.std.proofs.Common.{◌≡◌, length, arith, rules}
 use Rattle.jobs.specs.AddingLaws.{k-some, k_few}
 use Rattle.jobs.specs.FeedLaws.{parting, fed-block}
 use Rattle.jobs.proofs.adding.feed_block.Goals.{After-take_apart}
@@ -25,26 +21,8 @@ xs-size c = omega (arith, c.take_apart.auto.xs)
 ys-size : (c : After-take_apart) → length c.take_apart.new.ys ≡ 2048
 ys-size c = omega (arith, c.take_apart.auto.ys)
 
-pub overflow_mul-xs : goal.overflow_mul-xs
-overflow_mul-xs c = rw c.pair_bytes.ensures (omega (arith, c.requires.small))
-
-pub slice_bounds-xs-end : goal.slice_bounds-xs-end
-slice_bounds-xs-end c = rw (c.pair_bytes.ensures, xs-size (goal.at.slice_bounds-xs-end c).After-take_apart) c.requires.small
-
-pub slice_bounds-feed-end : goal.slice_bounds-feed-end
-slice_bounds-feed-end c = rw c.pair_bytes.ensures (sym (length-take-le _ c.take_apart.new.xs (rw (xs-size (goal.at.slice_bounds-feed-end c).After-take_apart) c.requires.small)))
-
-pub overflow_mul-ys : goal.overflow_mul-ys
-overflow_mul-ys c = rw c.pair_bytes.ensures (omega (arith, c.requires.small))
-
-pub slice_bounds-ys-end : goal.slice_bounds-ys-end
-slice_bounds-ys-end c = rw (c.pair_bytes.ensures, ys-size (goal.at.slice_bounds-ys-end c).After-take_apart) c.requires.small
-
-pub slice_bounds-feed-end-2 : goal.slice_bounds-feed-end-2
-slice_bounds-feed-end-2 c = rw c.pair_bytes.ensures (sym (length-take-le _ c.take_apart.new.ys (rw (ys-size (goal.at.slice_bounds-feed-end-2 c).After-take_apart) c.requires.small)))
-
 pub returns : goal.returns
 returns c =
     let t = c.take_apart in
     let apart = rw c.pair_bytes.ensures at t.ensures in
-    fed-block c.args.running.setting c.args.running.sum c.args.bytes.now c.requires t.new.xs t.new.ys (xs-size (goal.at.returns c).After-take_apart) (ys-size (goal.at.returns c).After-take_apart) apart c.feed-fed.result (rw c.pair_bytes.ensures at c.feed-fed.ensures)
+    fed-block c.args.running.setting c.args.running.sum c.args.bytes.now c.requires t.new.xs t.new.ys (xs-size (goal.at.returns c).After-take_apart) (ys-size (goal.at.returns c).After-take_apart) apart c.feed.result (rw c.pair_bytes.ensures at c.feed.ensures)

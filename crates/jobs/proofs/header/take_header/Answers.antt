@@ -1,20 +1,14 @@
 -- `take_header` meets its contract. Assumes nothing.
-use Prim.Native.Nat.{ℕ, ◌+◌, ◌-◌, ◌≤◌, ◌<◌}
-use mathlib.Core.Path.{◌≡◌, sym, ap, ◌∙◌}
-use mathlib.Core.List.{List, ◌++◌}
-use native.Mathlib.Omega.{arith}
-use lib.ListN.{length, take, drop}
-use borrow.Author.Rules.{rules}
-use borrow.Author.Tests.{lt-ltb}
+use Rattle.std.proofs.Common.{ℕ, ◌≡◌, ◌+◌, ◌-◌, ◌≤◌, ◌<◌, sym, ap, ◌∙◌, List, ◌++◌, length, take, drop, arith, rules, lt-ltb}
 use Rattle.polynomials.specs.Indices.{upto}
 use Rattle.polynomials.specs.Lists.{coefficient}
 use Rattle.packed.specs.declared.running.Record.{Record}
 use Rattle.jobs.specs.Jobs.{header_bytes}
 use Rattle.jobs.specs.States.{held_bytes, blank, heading, held_in, header_after}
-use Rattle.jobs.specs.CompletingLaws.{Completing, held-size, first-size, begun-size, begun-fits, all-taken, complete, begun-back, begun-rest}
+use Rattle.jobs.specs.CompletingLaws.{Completing, begun-size, all-taken, complete, begun-back, begun-rest}
 use Rattle.jobs.specs.declared.state.State.{State}
 use Rattle.jobs.specs.declared.state.Stage.TheVariants as in_stage
-use Rattle.jobs.proofs.header.take_header.Goals.{After-least-end}
+use Rattle.jobs.proofs.header.take_header.Goals.{After-min-end}
 use Rattle.jobs.proofs.header.take_header.Goals as goal
 
 heading-after : (bs : List ℕ) → length bs < header_bytes → heading bs ≡ header_after bs
@@ -37,32 +31,12 @@ module _ (st : State) (piece : List ℕ) (end : ℕ) (f : Completing st piece he
     at-full : (r : State) → r ≡ header_after (take header_bytes array ++ take (length piece - end) (drop end piece)) → r ≡ header_after (held_in st ++ piece)
     at-full r e = e ∙ ap header_after (ap (λ (l : List ℕ). l ++ take (length piece - end) (drop end piece)) front ∙ begun-rest st piece header_bytes end f)
 
-first : (c : After-least-end) → Completing c.args.state c.args.piece.now header_bytes c.least-end.result
-first c = record { short = c.requires; room = omega arith; array = search rules; most = c.least-end.ensures }
-
-pub slice_bounds-held-end : goal.slice_bounds-held-end
-slice_bounds-held-end c = omega (arith, (first c).short, (first c).array)
-
-pub slice_bounds-joined-end : goal.slice_bounds-joined-end
-slice_bounds-joined-end c = sym (held-size _ _ header_bytes _ (first (goal.at.slice_bounds-joined-end c).After-least-end))
-
-pub slice_bounds-joined-end-2 : goal.slice_bounds-joined-end-2
-slice_bounds-joined-end-2 c = sym (first-size _ _ header_bytes _ (first (goal.at.slice_bounds-joined-end-2 c).After-least-end))
-
-pub joined-header-requires : goal.joined-header-requires
-joined-header-requires c = begun-fits _ _ header_bytes _ (first (goal.at.joined-header-requires c).After-least-end)
+first : (c : After-min-end) → Completing c.args.state c.args.piece.now header_bytes c.min-end.result
+first c = record { short = c.requires; room = omega arith; array = search rules; most = c.min-end.ensures }
 
 pub returns-then-size-end-lt-HEADER_SIZE : goal.returns-then-size-end-lt-HEADER_SIZE
-returns-then-size-end-lt-HEADER_SIZE c = at_part _ _ _ (first (goal.at.returns-then-size-end-lt-HEADER_SIZE c).After-least-end) _ c.joined-header.ensures c.if-size-end-lt-HEADER_SIZE.true _ c.blank.ensures
-
-pub slice_bounds-open-end : goal.slice_bounds-open-end
-slice_bounds-open-end c =
-    sym (front-size _ _ _ (first (goal.at.slice_bounds-open-end c).After-least-end) _ c.joined-header.ensures c.if-size-end-lt-HEADER_SIZE.false)
-
-pub open-requires : goal.open-requires
-open-requires c =
-    front-size _ _ _ (first (goal.at.open-requires c).After-least-end) _ c.joined-header.ensures c.if-size-end-lt-HEADER_SIZE.false
+returns-then-size-end-lt-HEADER_SIZE c = at_part _ _ _ (first (goal.at.returns-then-size-end-lt-HEADER_SIZE c).After-min-end) _ c.joined-header.ensures c.if-size-end-lt-HEADER_SIZE.true _ c.blank.ensures
 
 pub returns : goal.returns
 returns c =
-    at-full _ _ _ (first (goal.at.returns c).After-least-end) _ c.joined-header.ensures c.if-size-end-lt-HEADER_SIZE.false _ c.«open».ensures
+    at-full _ _ _ (first (goal.at.returns c).After-min-end) _ c.joined-header.ensures c.if-size-end-lt-HEADER_SIZE.false _ (rw c.copy_from_slice.ensures.after at c.«open».ensures)

@@ -1,14 +1,7 @@
 -- `cancel` meets its contract. Assumes nothing.
-use mathlib.Core.Path.{sym, ◌∙◌}
-use lib.ListN.{replicate}
+use Rattle.std.proofs.Common.{sym, ◌∙◌, replicate}
 use Rattle.labels.specs.DivisionSteps.{multiple-size, multiple-below, step_words}
 use Rattle.labels.proofs.division.cancel.Goals as goal
-
-pub slice_bounds-subtract-end : goal.slice_bounds-subtract-end
-slice_bounds-subtract-end c =
-    let a = c.args in
-    let m = c.product in
-    sym (multiple-size a.g.now a.part.now (replicate 513 0) m.new.out m.result c.requires c.requires.few m.ensures)
 
 pub subtract-requires : goal.subtract-requires
 subtract-requires c =

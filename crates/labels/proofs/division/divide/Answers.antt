@@ -1,23 +1,12 @@
 -- `divide` meets its contract: with i steps to come the rest of the division gives what the whole does. Assumes nothing.
-use Rattle.labels.specs.DivisionSteps.{division-begun, division-part, division-turn, division-ended}
+use Rattle.labels.specs.DivisionSteps.{division-turn, division-ended}
 use Rattle.labels.proofs.division.divide.Goals as goal
-
-pub loop-i-init : goal.loop-i-init
-loop-i-init c = let a = c.args in division-begun a.g.now a.rest.now c.requires
-
-pub cancel-requires : goal.cancel-requires
-cancel-requires c =
-    let l = c.loop-i in
-    division-part c.args.g.now c.args.rest.now c.requires l.i l.rest l.invariant c.loop-i-test.true
 
 pub loop-i-preserved : goal.loop-i-preserved
 loop-i-preserved c =
     let l = c.loop-i in
     let w = c.cancel in
     division-turn c.args.g.now c.args.rest.now c.requires l.i l.rest l.invariant c.loop-i-test.true w.new.part w.ensures
-
-pub shape_of-rest : goal.shape_of-rest
-shape_of-rest c = c.loop-i.invariant.size
 
 pub returns : goal.returns
 returns c =

@@ -1,11 +1,5 @@
 -- `write_checks_in` meets its contract: the data words are turned into the list, it is divided, and its first words are the remainder. Assumes nothing.
-use Prim.Native.Nat.{ℕ, ◌-◌, ◌≤◌}
-use mathlib.Core.Path.{◌≡◌, sym, ap, ◌∙◌, subst⁻¹}
-use mathlib.Core.List.{List}
-use native.Mathlib.Omega.{arith}
-use lib.ListN.{length}
-use lib.Seq.{length-take-le}
-use Rattle.polynomials.specs.ListLaws.{length_part}
+use Rattle.std.proofs.Common.{ℕ, ◌-◌, ◌≤◌, ◌≡◌, sym, ap, ◌∙◌, List, arith, length, length-take-le, subst}
 use Rattle.divisions.specs.Divisions.{degree, divided}
 use Rattle.labels.specs.Labels.{modulus, carried}
 use Rattle.labels.specs.Working.{Dividing}
@@ -33,26 +27,9 @@ left c =
 long : (c : After-divide) → length c.args.out.now ≤ length c.divide.new.rest
 long c = left-long c.args.g.now c.args.content.now c.args.rest.now c.args.out.now c.requires c.divide.new.rest (left c)
 
-pub slice_bounds-turn-count : goal.slice_bounds-turn-count
-slice_bounds-turn-count c = room (goal.at.slice_bounds-turn-count c).Start
-
-pub slice_bounds-turn-start : goal.slice_bounds-turn-start
-slice_bounds-turn-start c = room (goal.at.slice_bounds-turn-start c).Start
-
-pub turn-requires : goal.turn-requires
-turn-requires c =
-    let size = work-size c.args.g.now c.args.content.now c.args.rest.now c.args.out.now c.requires in
-    length_part (length c.args.out.now) (length c.args.rest.now) c.args.rest.now (omega arith) ∙ omega (arith, size)
-
 pub divide-requires : goal.divide-requires
 divide-requires c =
-    subst⁻¹ (λ (l : List ℕ). Dividing c.args.g.now l) (put (goal.at.divide-requires c).After-turn) (work-dividing c.args.g.now c.args.content.now c.args.rest.now c.args.out.now c.requires)
-
-pub slice_bounds-turn_opposites-end : goal.slice_bounds-turn_opposites-end
-slice_bounds-turn_opposites-end c = long (goal.at.slice_bounds-turn_opposites-end c).After-divide
-
-pub slice_bounds-turn_opposites-end-2 : goal.slice_bounds-turn_opposites-end-2
-slice_bounds-turn_opposites-end-2 c = sym (length-take-le _ _ (long (goal.at.slice_bounds-turn_opposites-end-2 c).After-divide))
+    subst (λ (l : List ℕ). Dividing c.args.g.now l) (sym (put (goal.at.divide-requires c).After-turn)) (work-dividing c.args.g.now c.args.content.now c.args.rest.now c.args.out.now c.requires)
 
 pub turn_opposites-requires : goal.turn_opposites-requires
 turn_opposites-requires c =

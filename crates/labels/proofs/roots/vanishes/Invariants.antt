@@ -1,6 +1,5 @@
 -- `vanishes` meets its contract: the values at the first j roots are zero. Assumes nothing.
-use Prim.Native.Nat.{ℕ, ◌+◌, ◌-◌}
-use mathlib.Core.List.{List}
+use Rattle.std.proofs.Common.{ℕ, ◌+◌, List}
 use Rattle.polynomials.specs.IndexLaws.{NoneBefore}
 use Rattle.labels.specs.Labels.{value_at}
 use Rattle.labels.proofs.roots.vanishes.Given as goal
@@ -14,6 +13,3 @@ none i = 0
 
 abbrev pub invariant-loop-j : goal.invariant-loop-j
 invariant-loop-j l = NoneBefore l.m (values l.a) none l.j
-
-abbrev pub decreases-loop-j : goal.decreases-loop-j
-decreases-loop-j l = l.m - l.j

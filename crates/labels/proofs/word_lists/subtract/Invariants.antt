@@ -1,13 +1,8 @@
 -- `subtract` meets its contract: after i turns the first i words stand less those that are taken away. Assumes nothing.
-use Prim.Native.Nat.{◌-◌, ◌≤◌}
-use mathlib.Core.Path.{◌≡◌}
-use lib.ListN.{length}
+use Rattle.std.proofs.Common.{◌≡◌, length}
 use Rattle.polynomials.specs.Indices.{filled}
 use Rattle.labels.specs.WordLaws.{less_at}
 use Rattle.labels.proofs.word_lists.subtract.Given as goal
 
 abbrev pub invariant-loop-i : goal.invariant-loop-i
-invariant-loop-i l = (l.i ≤ length l.initial.out) × (l.out ≡ filled l.i (less_at l.initial.out l.xs) l.initial.out) × (length l.out ≡ length l.initial.out)
-
-abbrev pub decreases-loop-i : goal.decreases-loop-i
-decreases-loop-i l = length l.initial.out - l.i
+invariant-loop-i l = (l.out ≡ filled l.i (less_at l.initial.out l.xs) l.initial.out) × (length l.out ≡ length l.initial.out)

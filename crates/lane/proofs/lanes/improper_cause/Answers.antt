@@ -1,16 +1,18 @@
 -- `improper_cause` meets its contract. Assumes nothing.
-use Rattle.std.proofs.Common.{◌≡◌, ℕ, ◌^◌, Bool, true, false, not, T, leb, sym, refl, ◌∙◌, true≢false, arith, rules, ne_eqb, leb-false}
-use lib.Ieee.{Float, binary64, fits, le, eq, ne}
-use borrow.Author.Tests.{eqb-false, not-true, not-false}
+use Rattle.std.proofs.lemmas.Bool.{eqb-false, not-true, not-false}
+use Rattle.std.proofs.Common.{◌≡◌, ℕ, ◌^◌, ◌*◌, ◌%◌, Bool, true, false, not, T, leb, sym, refl, ◌∙◌, true≢false, arith, rules, ne_eqb, leb-false, Float}
+use Rattle.std.proofs.lemmas.Nat.{one_shl}
+use Rattle.std.specs.Float.{binary64}
+use Rattle.std.specs.Float.Ieee.{fits, le, eq, ne}
 use Rattle.polynomials.specs.Tests.{neither}
 use Rattle.doubles.specs.Whole.{double, whole_part, is_whole}
 use Rattle.doubles.specs.Exactly.{may-hold, zero_is}
-use Rattle.doubles.specs.Words.{Tested, whole-tested, from-zero-number, tested-cut, tested-number, tested-whole, short-is}
+use Rattle.doubles.specs.Words.{Tested, whole-tested, tested-cut, tested-number, tested-whole, short-is}
 use Rattle.settings.specs.Settings.{span_of}
 use Rattle.settings.specs.declared.setting.Setting.{Setting}
 use Rattle.lane.specs.Lanes.{improper_cause}
 use Rattle.lane.specs.LaneLaws.{LaneBounds, word_small}
-use Rattle.lane.proofs.lanes.improper_cause.Goals.{Else-not-x, Else-x-eq-MINUS_ZERO, Start}
+use Rattle.lane.proofs.lanes.improper_cause.Goals.{Else-not-x, Else-x-eq-MINUS_ZERO, Start, then-not-x-via-then-not-x, then-not-x-via-else-not-x+then-not-x-2, then-not-x-via-else-not-x+else-not-x-2+then-x-eq-MINUS_ZERO}
 use Rattle.lane.proofs.lanes.improper_cause.Goals as goal
 
 module _ {s : Setting} (b : LaneBounds s) (x : Float) (f : T (fits binary64 x)) where
@@ -28,17 +30,17 @@ module _ {s : Setting} (b : LaneBounds s) (x : Float) (f : T (fits binary64 x)) 
       go false e = absurd (h (takes e))
 
   module _ (t : Tested x) {w : ℕ} (cut : w ≡ whole_part x) where
-    at-fraction : ne (double w) x ≡ true → true ≡ improper_cause s x
+    at-fraction : ne (double w) x ≡ true → ne (double w) x ≡ improper_cause s x
     unfolding ne
     at-fraction h =
         let none : is_whole x ≡ false = sym (tested-whole x f t) ∙ not-true (eq (double (whole_part x)) x) (rw cut at h) in
-        rw none
+        rw none h
 
-    at-end : ne (double w) x ≡ false → leb (2 ^ span_of s) w ≡ improper_cause s x
+    at-end : ne (double w) x ≡ false → leb (1 * 2 ^ span_of s % 2 ^ 64) w ≡ improper_cause s x
     unfolding ne
     at-end h =
         let whole : is_whole x ≡ true = sym (tested-whole x f t) ∙ not-false (eq (double (whole_part x)) x) (rw cut at h) in
-        rw (whole, cut)
+        rw (whole, cut, one_shl (span_of s) 64 (omega (arith, b.short)))
 
 fitting : (c : Start) → T (fits binary64 c.args.x)
 fitting c = search rules
@@ -54,16 +56,13 @@ tested c = record {
 }
 
 pub returns-then-not-x : goal.returns-then-not-x
-returns-then-not-x c = refuses c.requires c.args.x (fitting (goal.at.returns-then-not-x c).Start) (λ t. true≢false (sym t.from_zero ∙ rw (← zero_is) c.if-not-x.true))
-
-pub returns-then-not-x-2 : goal.returns-then-not-x-2
-returns-then-not-x-2 c = refuses c.requires c.args.x (fitting (goal.at.returns-then-not-x-2 c).Start) (λ t. true≢false (sym t.short ∙ rw (← short-is) c.if-not-x-2.true))
-
-pub float_to_bits-x : goal.float_to_bits-x
-float_to_bits-x c = rw (from-zero-number c.args.x (from_zero (goal.at.float_to_bits-x c).Else-not-x)) tt
-
-pub returns-then-x-eq-MINUS_ZERO : goal.returns-then-x-eq-MINUS_ZERO
-returns-then-x-eq-MINUS_ZERO c = refuses c.requires c.args.x (fitting (goal.at.returns-then-x-eq-MINUS_ZERO c).Start) (λ t. eqb-false _ _ t.not_minus c.if-x-eq-MINUS_ZERO.true)
+returns-then-not-x c =
+    let refused = refuses c.args.s.bounds c.args.x (fitting (goal.at.returns-then-not-x c).Start) in
+    elim c.then-not-x.branch [
+      | then-not-x-via-then-not-x w ↦ refused (λ t. true≢false (sym t.from_zero ∙ rw (← zero_is) w.if-not-x.true))
+      | then-not-x-via-else-not-x+then-not-x-2 w ↦ refused (λ t. true≢false (sym t.short ∙ rw (← short-is) w.if-not-x-2.true))
+      | then-not-x-via-else-not-x+else-not-x-2+then-x-eq-MINUS_ZERO w ↦ refused (λ t. eqb-false _ _ t.not_minus w.if-x-eq-MINUS_ZERO.true)
+    ]
 
 pub truncating_f64_to_u64-word-requires : goal.truncating_f64_to_u64-word-requires
 truncating_f64_to_u64-word-requires c = let cut = tested-cut (tested c) in record { lower_bound = cut.0; upper_bound = cut.1 }
@@ -73,14 +72,8 @@ int_to_float-word c = may-hold _ (rw c.truncating_f64_to_u64-word.ensures (omega
 
 pub returns-then-word-x : goal.returns-then-word-x
 returns-then-word-x c =
-    at-fraction c.requires c.args.x (fitting (goal.at.returns-then-word-x c).Start) (tested (goal.at.returns-then-word-x c).Else-x-eq-MINUS_ZERO) c.truncating_f64_to_u64-word.ensures c.if-word-x.true
+    at-fraction c.args.s.bounds c.args.x (fitting (goal.at.returns-then-word-x c).Start) (tested (goal.at.returns-then-word-x c).Else-x-eq-MINUS_ZERO) c.truncating_f64_to_u64-word.ensures c.if-word-x.true
 
-pub overflow_mul-s-2 : goal.overflow_mul-s-2
-overflow_mul-s-2 c = omega (arith, c.requires.short)
-
-pub power-requires : goal.power-requires
-power-requires c = c.requires.short
-
-pub returns : goal.returns
-returns c =
-    rw c.power.ensures (at-end c.requires c.args.x (fitting (goal.at.returns c).Start) (tested (goal.at.returns c).Else-x-eq-MINUS_ZERO) c.truncating_f64_to_u64-word.ensures c.if-word-x.false)
+pub returns-else-word-x : goal.returns-else-word-x
+returns-else-word-x c =
+    at-end c.args.s.bounds c.args.x (fitting (goal.at.returns-else-word-x c).Start) (tested (goal.at.returns-else-word-x c).Else-x-eq-MINUS_ZERO) c.truncating_f64_to_u64-word.ensures c.if-word-x.false

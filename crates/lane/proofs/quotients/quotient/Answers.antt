@@ -11,5 +11,5 @@ less-rest-requires c = guess-less c.requires c.cut_product-guess.ensures c.times
 pub returns-then-rest-lane : goal.returns-then-rest-lane
 returns-then-rest-lane c = guess-right c.requires c.cut_product-guess.ensures c.times.ensures c.less-rest.ensures c.if-rest-lane.true
 
-pub returns : goal.returns
-returns c = guess-low c.requires c.cut_product-guess.ensures c.times.ensures c.less-rest.ensures c.if-rest-lane.false
+pub returns-else-rest-lane : goal.returns-else-rest-lane
+returns-else-rest-lane c = guess-low c.requires c.cut_product-guess.ensures c.times.ensures c.less-rest.ensures c.if-rest-lane.false

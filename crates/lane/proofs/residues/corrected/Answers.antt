@@ -18,8 +18,8 @@ pub returns-then-u-taken : goal.returns-then-u-taken
 returns-then-u-taken c =
     lower-is c.requires c.times.ensures c.remainder-taken.ensures c.plus.ensures c.if-u-taken.true c.less.ensures
 
-pub less-requires-2 : goal.less-requires-2
-less-requires-2 c = upper-less c.requires c.times.ensures c.remainder-taken.ensures c.if-u-taken.false
+pub less-requires-else-u-taken : goal.less-requires-else-u-taken
+less-requires-else-u-taken c = upper-less c.requires c.times.ensures c.remainder-taken.ensures c.if-u-taken.false
 
-pub returns : goal.returns
-returns c = upper_is c.requires c.times.ensures c.remainder-taken.ensures c.if-u-taken.false c.less-2.ensures
+pub returns-else-u-taken : goal.returns-else-u-taken
+returns-else-u-taken c = upper_is c.requires c.times.ensures c.remainder-taken.ensures c.if-u-taken.false c.less-else-u-taken.ensures

@@ -1,7 +1,6 @@
 -- `reduce_word` meets its contract: w is the word of the m from i on, and above is u_i. Assumes nothing.
-use Rattle.std.proofs.Common.{arith}
-use Rattle.doubles.specs.Exactly.{held_number, held_whole, may-hold}
-use Rattle.lane.specs.ResidueLaws.{dividing, reduced-none, reduced-all, place-starts, next-times, next_small, above-small, next-correcting, next-plus, next-reduced}
+use Rattle.doubles.specs.Exactly.{held_number, held_whole}
+use Rattle.lane.specs.ResidueLaws.{dividing, reduced-none, place-starts, next-times, next-correcting, next-plus, next-reduced}
 use Rattle.lane.proofs.residues.reduce_word.Goals as goal
 
 pub float_to_int-word : goal.float_to_int-word
@@ -13,12 +12,6 @@ quotient-whole-requires c = dividing c.requires
 pub float_to_int-whole : goal.float_to_int-whole
 float_to_int-whole c = rw (held_whole c.quotient-whole.ensures) tt
 
-pub overflow_mul-i : goal.overflow_mul-i
-overflow_mul-i c = omega (arith, c.requires.proper.within.bounded.range.choice.k_high)
-
-pub overflow_sub-i : goal.overflow_sub-i
-overflow_sub-i c = omega (arith, c.requires.proper.within.bounded.range.choice.k_low)
-
 pub loop-i-init : goal.loop-i-init
 loop-i-init c = reduced-none c.requires
 
@@ -28,12 +21,6 @@ shifted_residue-u-requires c = (place-starts c.requires c.loop-i.invariant c.loo
 pub times-requires : goal.times-requires
 times-requires c = next-times c.requires c.loop-i.invariant c.loop-i-test.true
 
-pub int_to_float-u : goal.int_to_float-u
-int_to_float-u c = may-hold _ (next_small c.requires c.loop-i.invariant c.loop-i-test.true c.shifted_residue-u.ensures)
-
-pub int_to_float-above : goal.int_to_float-above
-int_to_float-above c = may-hold _ (above-small c.requires c.loop-i.invariant c.loop-i-test.true)
-
 pub corrected-requires : goal.corrected-requires
 corrected-requires c = next-correcting c.requires c.loop-i.invariant c.loop-i-test.true c.shifted_residue-u.ensures
 
@@ -42,6 +29,3 @@ plus-w-requires c = next-plus c.requires c.loop-i.invariant c.loop-i-test.true c
 
 pub loop-i-preserved : goal.loop-i-preserved
 loop-i-preserved c = next-reduced c.requires c.loop-i.invariant c.loop-i-test.true c.shifted_residue-u.ensures c.times.ensures c.corrected.ensures c.plus-w.ensures
-
-pub returns : goal.returns
-returns c = reduced-all c.requires c.loop-i.invariant c.loop-i-test.false

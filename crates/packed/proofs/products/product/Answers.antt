@@ -1,24 +1,14 @@
 -- `product` meets its promise. Assumes nothing.
-use Prim.Native.Nat.{ℕ, ◌+◌, ◌-◌, ◌<◌}
-use mathlib.Core.Path.{◌≡◌, refl, sym, ap, ◌∙◌}
-use mathlib.Core.Bool.{true≢false}
-use mathlib.Core.List.{List}
-use native.Mathlib.Omega.{arith}
-use lib.ListN.{length}
+use Rattle.std.proofs.Common.{ℕ, ◌≡◌, refl, ◌+◌, ◌-◌, ◌<◌, List, length, sym, ◌∙◌, arith}
 use Rattle.polynomials.specs.Lists.{product_length}
-use Rattle.settings.specs.Answers.{fine}
-use Rattle.settings.specs.SharedAnswers.{writes_nothing}
-use Rattle.settings.specs.Settings.{checked_says}
-use Rattle.packed.specs.Products.{factor_checks, product_checks}
-use Rattle.packed.specs.ProductLaws.{Factors, factors-checked, product-refused, product-some, product-written}
-use Rattle.packed.specs.Gathering.{ToMultiply}
 use Rattle.settings.specs.declared.setting.Setting.{Setting}
-use Rattle.packed.proofs.products.product.Goals.{In_default}
+use Rattle.packed.specs.ProductLaws.{Factors, factors-checked, product-some, product-written}
+use Rattle.packed.specs.Gathering.{ToMultiply}
 use Rattle.packed.proofs.products.product.Goals as goal
 
-module _ (s : Setting) (a b out : List ℕ) (m : ℕ) (f : Factors s a b (length out)) (size : m ≡ product_length (length a) (length b)) (some : m ≡ 0 → ⊥) where
+module _ (s : Setting) (a b out : List ℕ) (m : ℕ) (f : Factors s a b (length out)) (size : m ≡ product_length (length a) (length b)) (some : 0 < m) where
   both : (0 < length a) × (0 < length b) × (product_length (length a) (length b) ≡ length a + length b - 1)
-  both = product-some (length a) (length b) (λ e. some (size ∙ e))
+  both = product-some (length a) (length b) (λ e. absurd (omega arith))
 
   working : ToMultiply s a b out
   working = record {
@@ -29,37 +19,27 @@ module _ (s : Setting) (a b out : List ℕ) (m : ℕ) (f : Factors s a b (length
     room = omega (arith, both.2, f.room);
   }
 
--- past the checks
-passed : (c : In_default) → factor_checks c.args.s c.args.a.now c.args.b.now (length c.args.out.now) ≡ fine
-passed c = sym c.check_factors.ensures ∙ ap checked_says c.in_default.is
-
-pub returns-in-Refused : goal.returns-in-Refused
-returns-in-Refused c =
-    let a = c.args in
-    writes_nothing (product_checks a.s a.a.now a.b.now (length a.out.now)) _ a.out.now _
-    (product-refused a.s a.a.now a.b.now (length a.out.now) _ _ (sym c.check_factors.ensures ∙ ap checked_says c.in-Refused.is))
-
 pub product_length-m-requires : goal.product_length-m-requires
-product_length-m-requires c = let f = factors-checked _ _ _ _ (passed c) in (f.left_size, f.right_size)
+product_length-m-requires c = let f = factors-checked _ _ _ _ c.in_ok-s.ensures.0 in (f.left_size, f.right_size)
 
-pub returns-then-m-eq0 : goal.returns-then-m-eq0
-returns-then-m-eq0 c =
+pub multiply-requires : goal.multiply-requires
+multiply-requires c =
     let a = c.args in
-    product-written a.s a.a.now a.b.now a.out.now a.out.now 0 (passed (goal.at.returns-then-m-eq0 c).In_default) (sym c.if-m-eq0.true ∙ c.product_length-m.ensures) refl
+    let e = c.in_ok-s.ensures in
+    rw e.1 (working a.s a.a.now a.b.now a.out.now c.product_length-m.result (factors-checked _ _ _ _ e.0) c.product_length-m.ensures c.if-m-gt0.true)
 
-pub multiply-fits-requires : goal.multiply-fits-requires
-multiply-fits-requires c =
-    let a = c.args in
-    let m = c.product_length-m in
-    working a.s a.a.now a.b.now a.out.now m.result (factors-checked _ _ _ _ (passed (goal.at.multiply-fits-requires c).In_default)) m.ensures c.if-m-eq0.false
-
-pub returns-then-not-fits : goal.returns-then-not-fits
-returns-then-not-fits c = absurd (true≢false (sym c.multiply-fits.ensures.0 ∙ c.if-not-fits.true))
-
-pub returns : goal.returns
-returns c =
+pub returns-in_ok-multiply : goal.returns-in_ok-multiply
+returns-in_ok-multiply c =
     let a = c.args in
     let m = c.product_length-m in
-    let f = factors-checked _ _ _ _ (passed (goal.at.returns c).In_default) in
-    let size : length a.a.now + length a.b.now - 1 ≡ m.result = sym (m.ensures ∙ (both a.s a.a.now a.b.now a.out.now m.result f m.ensures c.if-m-eq0.false).2) in
-    product-written a.s a.a.now a.b.now a.out.now _ m.result (passed (goal.at.returns c).In_default) m.ensures (rw size at c.multiply-fits.ensures.1)
+    let e = c.in_ok-s.ensures in
+    let f = factors-checked _ _ _ _ e.0 in
+    let size : length a.a.now + length a.b.now - 1 ≡ m.result = sym (m.ensures ∙ (both a.s a.a.now a.b.now a.out.now m.result f m.ensures c.if-m-gt0.true).2) in
+    product-written a.s a.a.now a.b.now a.out.now _ m.result e.0 m.ensures (rw (size, e.1) at c.multiply.ensures.1)
+
+pub returns-else-m-gt0 : goal.returns-else-m-gt0
+returns-else-m-gt0 c =
+    let a = c.args in
+    let m = c.product_length-m in
+    let none : m.result ≡ 0 = omega arith in
+    product-written a.s a.a.now a.b.now a.out.now a.out.now m.result c.in_ok-s.ensures.0 m.ensures (rw none refl)

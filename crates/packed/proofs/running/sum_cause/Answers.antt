@@ -1,70 +1,49 @@
 -- `sum_cause` meets its contract. Assumes nothing.
-use Prim.Native.Nat.{◌≤◌, ◌<◌}
-use mathlib.Core.Path.{◌≡◌, sym, ap, ◌∙◌}
-use mathlib.Core.Bool.{true, false}
-use native.Mathlib.Nat.{mod-lt}
-use borrow.Author.Tests.{lt-ltb, le-ltb}
+use Rattle.std.proofs.Common.{◌≡◌, Bool, true, false, ◌||◌, ltb, refl, Result, Ok, Err, sym, ap, ◌∙◌, lt-ltb, le-ltb}
+use Rattle.std.specs.Result.{is_err}
 use Rattle.settings.specs.Limits.{most_pairs}
 use Rattle.settings.specs.Answers.{refuses}
-use Rattle.settings.specs.Settings.{checked_says}
-use Rattle.settings.specs.Bounds.{bounds}
-use Rattle.words.specs.Places.{word_cause, word_checks}
+use Rattle.settings.specs.Refusals.{says}
+use Rattle.settings.specs.declared.refusals.Refusal.{Refusal}
+use Rattle.words.specs.Places.{word_cause}
 use Rattle.words.specs.WordLaws.{word-told}
 use Rattle.packed.specs.Running.{open_pairs, residues_cause, fields_cause, sum_cause}
-use Rattle.settings.specs.declared.setting.Setting.{Setting}
-use Rattle.packed.specs.declared.running.Sum.{Sum}
-use Rattle.packed.proofs.running.sum_cause.Goals.{Else-fields_cause}
+use Rattle.packed.proofs.running.sum_cause.Goals.{Joined-residues_cause, then-sum-gt-MOST_PAIRS, else-sum-gt-MOST_PAIRS, then-residues_cause, else-residues_cause}
 use Rattle.packed.proofs.running.sum_cause.Goals as goal
 
-module _ (s : Setting) (u : Sum) where
-  too_many : most_pairs < u.total → true ≡ sum_cause s u
-  unfolding sum_cause
-  too_many h = rw (lt-ltb most_pairs u.total h)
+-- the causes from the left, as the code tests them, and from the right
+from-left : (a b c d : Bool) → (((a || b) || c) || d) ≡ (a || (b || (c || d)))
+from-left true b c d = refl
+from-left false true c d = refl
+from-left false false c d = refl
 
-  module _ (few : u.total ≤ most_pairs) where
-    residue : residues_cause s u.residues ≡ true → true ≡ sum_cause s u
-    unfolding sum_cause
-    residue e = rw (le-ltb most_pairs u.total few, e)
+refuses-err : (r : Result (Unit {0}) Refusal) → refuses (says r) ≡ is_err r
+refuses-err (Ok v) = refl
+refuses-err (Err e) = refl
 
-    module _ (low : residues_cause s u.residues ≡ false) where
-      at_field : fields_cause s (open_pairs s u) u.word ≡ true → true ≡ sum_cause s u
-      unfolding sum_cause
-      at_field e = rw (le-ltb most_pairs u.total few, low, e)
+-- the first two
+two : (c : Joined-residues_cause) → c.if-sum-gt-MOST_PAIRS.value ≡ (ltb most_pairs c.args.sum.total || residues_cause c.args.s.setting c.args.sum.residues)
+two c = elim c.if-sum-gt-MOST_PAIRS.branch [
+  | then-sum-gt-MOST_PAIRS w ↦ w.value-is ∙ rw (lt-ltb most_pairs c.args.sum.total w.if-sum-gt-MOST_PAIRS.true) refl
+  | else-sum-gt-MOST_PAIRS w ↦ w.value-is ∙ w.residues_cause.ensures ∙ rw (le-ltb most_pairs c.args.sum.total w.if-sum-gt-MOST_PAIRS.false) refl
+]
 
-      at-word : fields_cause s (open_pairs s u) u.word ≡ false → word_cause s u.word ≡ sum_cause s u
-      unfolding sum_cause
-      at-word e = rw (le-ltb most_pairs u.total few, low, e)
+three : (c : Joined-residues_cause) → c.if-residues_cause.value
+    ≡ ((ltb most_pairs c.args.sum.total || residues_cause c.args.s.setting c.args.sum.residues) || fields_cause c.args.s.setting (open_pairs c.args.s.setting c.args.sum) c.args.sum.word)
+three c = elim c.if-residues_cause.branch [
+  | then-residues_cause w ↦ w.value-is ∙ rw (← two c, w.if-residues_cause.true) refl
+  | else-residues_cause w ↦ w.value-is ∙ w.fields_cause.ensures ∙ rw (← two c, w.if-residues_cause.false) refl
+]
 
-pub returns-then-sum-gt-MOST_PAIRS : goal.returns-then-sum-gt-MOST_PAIRS
-returns-then-sum-gt-MOST_PAIRS c = too_many c.args.s c.args.sum c.if-sum-gt-MOST_PAIRS.true
-
-pub residues_cause-requires : goal.residues_cause-requires
-residues_cause-requires c = bounds _ c.requires
-
-pub returns-then-residues_cause : goal.returns-then-residues_cause
-returns-then-residues_cause c = residue c.args.s c.args.sum c.if-sum-gt-MOST_PAIRS.false (sym c.residues_cause.ensures ∙ c.if-residues_cause.true)
-
-pub nonzero_rem-sum : goal.nonzero_rem-sum
-nonzero_rem-sum c = (bounds _ c.requires).range.choice.n_low
-
-pub fields_cause-requires : goal.fields_cause-requires
-fields_cause-requires c =
-    let b = bounds _ c.requires in
-    (b, mod-lt c.args.sum.total b.range.choice.n_low)
+all : (c : Joined-residues_cause) → (c.if-residues_cause.value || word_cause c.args.s.setting c.args.sum.word) ≡ sum_cause c.args.s.setting c.args.sum
+unfolding sum_cause
+all c = rw (three c) (from-left (ltb most_pairs c.args.sum.total) (residues_cause c.args.s.setting c.args.sum.residues) (fields_cause c.args.s.setting (open_pairs c.args.s.setting c.args.sum) c.args.sum.word) (word_cause c.args.s.setting c.args.sum.word))
 
 pub returns-then-fields_cause : goal.returns-then-fields_cause
-returns-then-fields_cause c =
-    at_field c.args.s c.args.sum c.if-sum-gt-MOST_PAIRS.false (sym c.residues_cause.ensures ∙ c.if-residues_cause.false) (sym c.fields_cause.ensures ∙ c.if-fields_cause.true)
+returns-then-fields_cause c = c.if-fields_cause.true ∙ (rw c.if-fields_cause.true at (all (goal.at.returns-then-fields_cause c).Joined-residues_cause))
 
--- the word alone is left, and 11 decides
-last : (c : Else-fields_cause) → refuses (word_checks c.args.s c.args.sum.word) ≡ sum_cause c.args.s c.args.sum
-last c =
+pub returns-else-fields_cause : goal.returns-else-fields_cause
+returns-else-fields_cause c =
     let a = c.args in
-    word-told a.s a.sum.word c.requires
-    ∙ at-word a.s a.sum c.if-sum-gt-MOST_PAIRS.false (sym c.residues_cause.ensures ∙ c.if-residues_cause.false) (sym c.fields_cause.ensures ∙ c.if-fields_cause.false)
-
-pub returns-in-Refused : goal.returns-in-Refused
-returns-in-Refused c = sym (ap refuses (sym c.check_word.ensures ∙ ap checked_says c.in-Refused.is)) ∙ last (goal.at.returns-in-Refused c).Else-fields_cause
-
-pub returns : goal.returns
-returns c = sym (ap refuses (sym c.check_word.ensures ∙ ap checked_says c.in_default.is)) ∙ last (goal.at.returns c).Else-fields_cause
+    c.is_err.ensures.value ∙ sym (refuses-err c.check_word.result) ∙ ap refuses c.check_word.ensures ∙ word-told a.s.setting a.sum.word c.requires
+    ∙ (rw c.if-fields_cause.false at (all (goal.at.returns-else-fields_cause c).Joined-residues_cause))

@@ -1,27 +1,30 @@
 -- `smallest_width` meets its contract: the search from 1 is the search from t, at every turn. Assumes nothing.
-use mathlib.Core.Path.{refl, sym, ◌∙◌}
-use native.Mathlib.Omega.{arith}
+use Rattle.std.proofs.Common.{refl, sym, ◌∙◌, arith, ◌≡◌, lt-ltb, le-ltb}
 use Rattle.polynomials.specs.IndexLaws.{first_found, first-passed, first_ended}
-use Rattle.settings.specs.Choices.{escapes, smallest_width}
+use Rattle.settings.specs.Choices.{escapes, smallest_width, none_cause}
 use Rattle.settings.proofs.setting.smallest_width.Goals as goal
 
 pub loop-t-init : goal.loop-t-init
 unfolding smallest_width
-loop-t-init c = (omega arith, omega arith, refl)
+loop-t-init c = refl
 
-pub returns-then-width_escapes : goal.returns-then-width_escapes
-returns-then-width_escapes c =
+pub returns-then-escapes : goal.returns-then-escapes
+unfolding none_cause
+returns-then-escapes c =
     let a = c.args in
     let t = c.loop-t.t in
-    sym (c.loop-t.invariant.2 ∙ first_found (escapes a.p a.k a.n) 64 t (omega arith) (sym c.width_escapes.ensures ∙ c.if-width_escapes.true))
+    let at : smallest_width a.p a.k a.n ≡ t = c.loop-t.invariant ∙ first_found (escapes a.p a.k a.n) 64 t (omega arith) (sym c.escapes.ensures ∙ c.if-escapes.true) in
+    rw (at, le-ltb 63 t (omega arith))
 
 pub loop-t-preserved : goal.loop-t-preserved
 loop-t-preserved c =
     let a = c.args in
     let t = c.loop-t.t in
-    (omega arith, omega arith, c.loop-t.invariant.2 ∙ first-passed (escapes a.p a.k a.n) 64 t (omega arith) (sym c.width_escapes.ensures ∙ c.if-width_escapes.false))
+    c.loop-t.invariant ∙ first-passed (escapes a.p a.k a.n) 64 t (omega arith) (sym c.escapes.ensures ∙ c.if-escapes.false)
 
 pub returns : goal.returns
+unfolding none_cause
 returns c =
     let a = c.args in
-    sym (c.loop-t.invariant.2 ∙ first_ended (escapes a.p a.k a.n) 64 c.loop-t.t (omega arith))
+    let at : smallest_width a.p a.k a.n ≡ c.loop-t.t = c.loop-t.invariant ∙ first_ended (escapes a.p a.k a.n) 64 c.loop-t.t (omega arith) in
+    rw (at, lt-ltb 63 c.loop-t.t (omega arith))

@@ -1,12 +1,8 @@
 -- `smallest_width` meets its contract: the search from 1 is the search from t, at every turn. Assumes nothing.
-use Prim.Native.Nat.{◌≤◌, ◌-◌}
-use mathlib.Core.Path.{◌≡◌}
+use Rattle.std.proofs.Common.{◌≡◌, ◌-◌}
 use Rattle.polynomials.specs.Indices.{first}
 use Rattle.settings.specs.Choices.{escapes, smallest_width}
 use Rattle.settings.proofs.setting.smallest_width.Given as goal
 
 abbrev pub invariant-loop-t : goal.invariant-loop-t
-invariant-loop-t l = (1 ≤ l.t) × (l.t ≤ 64) × (smallest_width l.p l.k l.n ≡ first (escapes l.p l.k l.n) (64 - l.t) l.t)
-
-abbrev pub decreases-loop-t : goal.decreases-loop-t
-decreases-loop-t l = 64 - l.t
+invariant-loop-t l = smallest_width l.p l.k l.n ≡ first (escapes l.p l.k l.n) (64 - l.t) l.t

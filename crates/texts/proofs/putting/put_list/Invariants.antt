@@ -1,11 +1,7 @@
--- `put_list` meets its promise: after i turns the first i numbers stand. Assumes nothing.
-use Prim.Native.Nat.{◌-◌, ◌≤◌}
-use lib.ListN.{length, take}
+-- `put_list` meets its promise: after each turn the numbers so far stand. Assumes nothing.
+use Rattle.std.proofs.Common.{map, take}
 use Rattle.texts.specs.Putting.{spaced, Puts}
 use Rattle.texts.proofs.putting.put_list.Given as goal
 
-abbrev pub invariant-loop-i : goal.invariant-loop-i
-invariant-loop-i l = (l.i ≤ length l.ns) × Puts l.initial.next (spaced (take l.i l.ns)) l.initial.out l.next l.out
-
-abbrev pub decreases-loop-i : goal.decreases-loop-i
-decreases-loop-i l = length l.ns - l.i
+abbrev pub invariant-loop-n : goal.invariant-loop-n
+invariant-loop-n g l = Puts l.initial.next (spaced (map (g.T.Whole.value) (take l.n-index l.ns))) l.initial.out l.next l.out

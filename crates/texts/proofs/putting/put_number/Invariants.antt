@@ -1,5 +1,5 @@
 -- `put_number` meets its promise: in each turn the digits from place i on stand. Assumes nothing.
-use mathlib.Core.Path.{◌≡◌}
+use Rattle.std.proofs.Common.{◌≡◌}
 use Rattle.texts.specs.PuttingLaws.{DigitsFrom}
 use Rattle.texts.proofs.putting.put_number.Given as goal
 

@@ -1,6 +1,5 @@
 -- `check_numbers` meets its contract: no place before i is bad, and n numbers stand there. Assumes nothing.
-use Prim.Native.Nat.{◌-◌}
-use lib.ListN.{length}
+use Rattle.std.proofs.Common.{◌-◌, length}
 use Rattle.texts.specs.RunLaws.{Sought}
 use Rattle.texts.proofs.reading.check_numbers.Given as goal
 

@@ -1,51 +1,33 @@
 -- `number_at` meets its contract: the digits up to where it stands come to value, which is not above most. Assumes nothing.
-use mathlib.Core.Path.{◌≡◌, sym, ◌∙◌}
-use mathlib.Core.Bool.{true}
-use native.Mathlib.Omega.{arith}
+use Rattle.std.proofs.Common.{◌≡◌, true, arith, rules}
 use Rattle.polynomials.specs.Lists.{coefficient}
 use Rattle.layout.specs.Decimals.{is_digit}
-use Rattle.texts.specs.KindLaws.{kind-digit, kind-no-digit}
-use Rattle.texts.specs.RunLaws.{going-begins, going-turn, going-stops, going-ended, going-larger}
-use Rattle.texts.proofs.reading.number_at.Goals.{Else-kind_of-ne-DIGIT}
+use Rattle.texts.specs.KindLaws.{digit-bounds, told-digit, told-no-digit}
+use Rattle.texts.specs.RunLaws.{going-turn, going-stops, going-larger}
+use Rattle.texts.specs.declared.kinds.Kind.TheVariants.{Digit}
+use Rattle.texts.proofs.reading.number_at.Goals.{Else-ne}
 use Rattle.texts.proofs.reading.number_at.Goals as goal
 
-pub loop-end-init : goal.loop-end-init
-loop-end-init c = (going-begins c.args.text.now c.args.i c.requires.0 c.requires.1, omega arith)
-
-pub returns-then-kind_of-ne-DIGIT : goal.returns-then-kind_of-ne-DIGIT
-returns-then-kind_of-ne-DIGIT c =
+pub returns-then-ne : goal.returns-then-ne
+returns-then-ne c =
     let l = c.loop-end in
-    let text = c.args.text.now in (
-      going-stops text c.args.i l.value l.end (omega arith) c.requires.1 (kind-no-digit (coefficient text l.end) (λ e. c.if-kind_of-ne-DIGIT.true (c.kind_of.ensures ∙ e))) l.invariant.0,
-      l.invariant.1,
-    )
+    let other : c.kind_of.result ≡ Digit → ⊥ = search rules in
+    (going-stops l.invariant.0 (omega arith) c.requires.1 (told-no-digit c.kind_of.result _ c.kind_of.ensures other), l.invariant.1)
 
 -- what stands where it is
-digit : (c : Else-kind_of-ne-DIGIT) → is_digit (coefficient c.args.text.now c.loop-end.end) ≡ true
-digit c =
-    kind-digit (coefficient c.args.text.now c.loop-end.end) (sym c.kind_of.ensures ∙ c.if-kind_of-ne-DIGIT.false)
+digit : (c : Else-ne) → is_digit (coefficient c.args.text.now c.loop-end.end) ≡ true
+digit c = told-digit c.kind_of.result _ c.kind_of.ensures (search rules)
 
 pub returns-then-most-value : goal.returns-then-most-value
-returns-then-most-value c =
-    let l = c.loop-end in
-    omega (arith, going-larger c.args.text.now c.args.i l.value l.end (omega arith) (digit (goal.at.returns-then-most-value c).Else-kind_of-ne-DIGIT) l.invariant.0)
+returns-then-most-value c = omega (arith, going-larger c.loop-end.invariant.0 c.loop-end-test.true (digit (goal.at.returns-then-most-value c).Else-ne))
 
-pub digit_of-digit-requires : goal.digit_of-digit-requires
-digit_of-digit-requires c = digit (goal.at.digit_of-digit-requires c).Else-kind_of-ne-DIGIT
+pub overflow_sub-code : goal.overflow_sub-code
+overflow_sub-code c =
+    let d = digit (goal.at.overflow_sub-code c).Else-ne in
+    omega (arith, digit-bounds)
 
 pub returns-then-most-tens : goal.returns-then-most-tens
-returns-then-most-tens c =
-    let l = c.loop-end in
-    omega (arith, c.digit_of-digit.ensures, going-larger c.args.text.now c.args.i l.value l.end (omega arith) (digit (goal.at.returns-then-most-tens c).Else-kind_of-ne-DIGIT) l.invariant.0)
+returns-then-most-tens c = omega (arith, going-larger c.loop-end.invariant.0 c.loop-end-test.true (digit (goal.at.returns-then-most-tens c).Else-ne))
 
 pub loop-end-preserved : goal.loop-end-preserved
-loop-end-preserved c =
-    let l = c.loop-end in (
-      rw c.digit_of-digit.ensures (going-turn c.args.text.now c.args.i l.value l.end (omega arith) (digit (goal.at.loop-end-preserved c).Else-kind_of-ne-DIGIT) l.invariant.0),
-      omega arith,
-    )
-
-pub returns : goal.returns
-returns c =
-    let l = c.loop-end in
-    (going-ended c.args.text.now c.args.i l.value l.end c.requires.0 (omega arith) l.invariant.0, l.invariant.1)
+loop-end-preserved c = (rw c.from-digit.ensures (going-turn c.loop-end.invariant.0 c.loop-end-test.true (digit (goal.at.loop-end-preserved c).Else-ne)), omega arith)

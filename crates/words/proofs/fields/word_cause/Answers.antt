@@ -4,5 +4,5 @@ use Rattle.words.proofs.fields.word_cause.Goals as goal
 
 pub returns : goal.returns
 returns c =
-    let a = c.args in
-    rw (word-top a.s a.word c.requires.range.choice.k_low, c.power.ensures)
+    let s = c.args.s in
+    rw (word-top s.setting c.args.word s.bounds.range.choice.k_low, c.base.ensures)

@@ -1,8 +1,0 @@
--- `colon` ends. Assumes nothing.
-use Rattle.calc.proofs.places.colon.Goals as goal
-
-pub loop-i-init : goal.loop-i-init
-loop-i-init c = tt
-
-pub loop-i-preserved : goal.loop-i-preserved
-loop-i-preserved c = tt

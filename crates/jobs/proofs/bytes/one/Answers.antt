@@ -1,7 +1,0 @@
--- `one` meets its contract. Assumes nothing.
-use mathlib.Core.Path.{◌∙◌}
-use native.Mathlib.Nat.{zero-mul, zero-add, add-zero}
-use Rattle.jobs.proofs.bytes.one.Goals as goal
-
-pub returns : goal.returns
-returns c = c.wide_byte.ensures ∙ rw (zero-mul, zero-add, add-zero)
