@@ -15,7 +15,7 @@ pub struct Call {
     pub options: Options,
 }
 
-// How many elements are lent, where the line says so; and whether a digest is asked for.
+// How many elements are lent, where the line says so; and whether a digest is asked for, which has no value of its own.
 #[derive(Clone, Copy)]
 pub struct Options {
     pub lent: Option<usize>,

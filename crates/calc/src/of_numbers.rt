@@ -28,6 +28,7 @@ pub fn answer_numbers(
     Ok(match verb {
         Verb::Choose => {
             let [p, k, n, ..] = call.numbers;
+            // The width is taken out by `let .. else`, as the project asks of whoever calls choose.
             let chosen = choose(p, k, n);
             let Ok(width) = chosen else {
                 // What stands in the way of a width.

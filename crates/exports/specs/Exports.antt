@@ -33,7 +33,7 @@ use Rattle.lane.specs.declared.Lane.{Lane}
 use Rattle.exports.specs.Replies.{reply_of, lane_reply_of, result_reply, lane_reply, Tells, tells-once, tells-written-once}
 use Rattle.exports.specs.declared.replies.Reply.{Reply}
 use Rattle.exports.specs.declared.replies.LaneReply.{LaneReply}
-use Rattle.settings.specs.Refusals.{number_of, place_of, says}
+use Rattle.settings.specs.Refusals.{number_of, place_told, says}
 use Rattle.settings.specs.declared.refusals.Refusal.{Refusal}
 
 -- ---- numbers and words
@@ -92,8 +92,8 @@ whole_sum_checks s xs ys len =
     and_then refuse (short_cause (places s) len) 10 0
 
 -- the same as a result
-abbrev pub Sums : Setting → List ℕ → List ℕ → List ℕ → Result ℕ Refusal → List ℕ → Type 0
-Sums s xs ys old a after =
+abbrev pub SumsTo : Setting → List ℕ → List ℕ → List ℕ → Result ℕ Refusal → List ℕ → Type 0
+SumsTo s xs ys old a after =
     (says a ≡ (whole_sum_checks s xs ys (length old) and_then answered (rounded_up (length (fed_pairs s xs ys)) s.n)))
     × (after ≡ left_by (whole_sum_checks s xs ys (length old)) (schoolbook s (fed_pairs s xs ys)) old)
 
@@ -109,7 +109,7 @@ sax-sum-once s xs ys old r u x y hr hu = (hr.0 ∙ sym hu.0, hr.1 ∙ sym hu.1)
 
 abbrev pub by_made : Result Lane Refusal → (Lane → LaneReply → Type 0) → LaneReply → Type 0
 by_made (Ok l) Then r = Then l r
-by_made (Err why) Then r = r ≡ lane_reply_of (refused (number_of why) (place_of why))
+by_made (Err why) Then r = r ≡ lane_reply_of (refused (number_of why) (place_told why))
 
 pub record InLane (s : Setting) (Then : Lane → LaneReply → Type 0) (r : LaneReply) : Type 0 where
   pub made : Result Lane Refusal

@@ -32,7 +32,7 @@ use Rattle.exports.specs.Replies.{reply_of, lane_reply_of, lane_reply, Tells}
 use Rattle.exports.specs.Exports.{whole_sum_checks, GivesSum, by_made, GivesLaneSum, GivesLaneReduced}
 use Rattle.exports.specs.declared.replies.Reply.{Reply}
 use Rattle.exports.specs.declared.replies.LaneReply.{LaneReply}
-use Rattle.settings.specs.Refusals.{number_of, place_of}
+use Rattle.settings.specs.Refusals.{number_of, place_told}
 use Rattle.settings.specs.declared.refusals.Refusal.{Refusal}
 
 -- ---- replies
@@ -128,7 +128,7 @@ unmade-never-12 s (Ok l) Then r makes gives rest e = rest l makes gives e
 unmade-never-12 s (Err why) Then r makes gives rest e =
     let a : Answer Lane = in_lanes.make_checks s and_then answered (in_lanes.lane_of s) in
     let is : number_of why ≡ 12 = ap (λ (r : LaneReply). r.number) (sym gives) ∙ e in
-    given-never 12 refl (given-then (in_lanes.make-gives s) (given-value (in_lanes.lane_of s))) (place_of why) (sym makes ∙ ap (λ (n : ℕ). refused n (place_of why)) is)
+    given-never 12 refl (given-then (in_lanes.make-gives s) (given-value (in_lanes.lane_of s))) (place_told why) (sym makes ∙ ap (λ (n : ℕ). refused n (place_told why)) is)
 
 pub sax-lane-sum-never-12 : (s : Setting) (xs ys : List ℕ) (r : LaneReply) → GivesLaneSum s xs ys r → r.number ≡ 12 → ⊥
 sax-lane-sum-never-12 s xs ys r h =

@@ -28,8 +28,8 @@ use Rattle.packed.specs.declared.running.Record.{Record}
 use Rattle.packed.specs.declared.running.Begun.{Begun}
 use Rattle.packed.specs.declared.running.Fed.{Fed}
 use Rattle.exports.specs.Replies.{reply_of, result_reply}
-use Rattle.exports.specs.Exports.{whole_sum_checks, GivesSum, Sums}
-use Rattle.settings.specs.Refusals.{number_of, place_of, says}
+use Rattle.exports.specs.Exports.{whole_sum_checks, GivesSum, SumsTo}
+use Rattle.settings.specs.Refusals.{number_of, place_told, says}
 use Rattle.settings.specs.declared.refusals.Refusal.{Refusal}
 
 abbrev pub FedTo : Record → List ℕ → List ℕ → Record → ℕ → Type 0
@@ -94,7 +94,7 @@ refused-first (answered u) m number place e = absurd (never number place m (sym 
 refused-first (refused n i) m number place e = cc
 
 -- a sum as a result, told in numbers
-pub sums-give : (s : Setting) (xs ys old : List ℕ) (a : Result ℕ Refusal) (after : List ℕ) → Sums s xs ys old a after → GivesSum s xs ys old (result_reply a) after
+pub sums-give : (s : Setting) (xs ys old : List ℕ) (a : Result ℕ Refusal) (after : List ℕ) → SumsTo s xs ys old a after → GivesSum s xs ys old (result_reply a) after
 sums-give s xs ys old a after h = (ap reply_of h.0, h.1)
 
 module _ (s : Setting) (xs ys old : List ℕ) where
@@ -106,7 +106,7 @@ module _ (s : Setting) (xs ys old : List ℕ) where
   sum-unset number place e = (rw e, rw e)
 
   -- the same of results
-  pub unset-sums : (e : Refusal) → setting_checks s ≡ refused (number_of e) (place_of e) → Sums s xs ys old (Err e) old
+  pub unset-sums : (e : Refusal) → setting_checks s ≡ refused (number_of e) (place_told e) → SumsTo s xs ys old (Err e) old
   unfolding whole_sum_checks
   unset-sums e h = (rw h, rw h)
 
@@ -117,13 +117,13 @@ module _ (s : Setting) (xs ys old : List ℕ) where
         let why : feed_checks start xs ys ≡ refused number place = refused-first (feed_checks start xs ys) (length xs / s.k) number place (sym fed.0 ∙ e) in
         (rw (ok, why), rw (ok, why))
 
-    pub unfed-sums : (e : Refusal) → says f.answer ≡ refused (number_of e) (place_of e) → Sums s xs ys old (Err e) old
+    pub unfed-sums : (e : Refusal) → says f.answer ≡ refused (number_of e) (place_told e) → SumsTo s xs ys old (Err e) old
     unfolding whole_sum_checks
     unfed-sums e h =
-        let why : feed_checks start xs ys ≡ refused (number_of e) (place_of e) = refused-first (feed_checks start xs ys) (length xs / s.k) (number_of e) (place_of e) (sym fed.0 ∙ h) in
+        let why : feed_checks start xs ys ≡ refused (number_of e) (place_told e) = refused-first (feed_checks start xs ys) (length xs / s.k) (number_of e) (place_told e) (sym fed.0 ∙ h) in
         (rw (ok, why), rw (ok, why))
 
-    pub closed-sums : (m : ℕ) (a : Result ℕ Refusal) (after : List ℕ) → says f.answer ≡ answered m → Closes f.running old a after → Sums s xs ys old a after
+    pub closed-sums : (m : ℕ) (a : Result ℕ Refusal) (after : List ℕ) → says f.answer ≡ answered m → Closes f.running old a after → SumsTo s xs ys old a after
     unfolding whole_sum_checks
     closed-sums m a after took closes =
         let taken : feed_checks start xs ys ≡ fine = (passed_first (feed_checks start xs ys) (answered (length xs / s.k)) m (sym fed.0 ∙ took)).0 in

@@ -3,7 +3,7 @@
 #![tactic(auto)]
 
 ghost use Rattle.settings.specs.Settings.{setting_of};
-ghost use Rattle.exports.specs.Exports.{GivesWidth, GivesWord, GivesFields, GivesReduced, GivesTable, GivesReducedWords, GivesProduct, GivesSum, Sums, GivesLaneSum, GivesLaneReduced};
+ghost use Rattle.exports.specs.Exports.{GivesWidth, GivesWord, GivesFields, GivesReduced, GivesTable, GivesReducedWords, GivesProduct, GivesSum, SumsTo, GivesLaneSum, GivesLaneReduced};
 
 mod calls;
 pub mod replies;
@@ -23,6 +23,7 @@ use words::{reduce, unpack};
 pub fn sax_choose(p: u64, k: u64, n: u64) -> Reply
     ensures { GivesWidth p k n result }
 {
+    // The width is taken out by `let .. else`, as the project asks of whoever calls choose.
     let chosen = choose(p, k, n);
     let Ok(width) = chosen else {
         return Reply::from(chosen);
@@ -102,7 +103,7 @@ pub fn sax_sum(
 }
 
 fn sum(s: Setting, xs: &[u16], ys: &[u16], size: usize, out: &mut [u16]) -> Result<u64, Refusal>
-    ensures { Sums s xs.now ys.now out.old result out.new }
+    ensures { SumsTo s xs.now ys.now out.old result out.new }
 {
     let begun = fresh(s);
     begun.answer?;

@@ -4,6 +4,7 @@ ghost use Rattle.exports.specs.Replies.{result_reply, lane_reply};
 
 use settings::refusals::Refusal;
 
+// Numbers in fields, and 0 for none, since C reads it.
 #[repr(C)]
 #[derive(Clone, Copy)]
 pub struct Reply {

@@ -42,7 +42,7 @@ use Rattle.jobs.specs.LineLaws.{sums-line-short, refused-line-short}
 use Rattle.jobs.specs.declared.state.State.{State}
 use Rattle.jobs.specs.declared.state.Stage.{Stage}
 use Rattle.jobs.specs.declared.state.Stage.TheVariants as in_stage
-use Rattle.settings.specs.Refusals.{number_of, place_of, says}
+use Rattle.settings.specs.Refusals.{number_of, place_told, says}
 
 abbrev pub reductions_of : Record → ℕ
 reductions_of r = rounded_up r.sum.total r.setting.n
@@ -90,7 +90,7 @@ module _ (r : Record) (pairs : ℕ) (h : Adding r.setting r.sum pairs) where
         rw whole (take_at sums (drop (length sums) old) (places r.setting) (length-upto (places r.setting) (closing_at r.setting r.sum)))
 
     pub closed-never : (why : Refusal) → a ≡ Err why → ⊥
-    closed-never why e = never (number_of why) (place_of why) (reductions_of r) (rw e at said)
+    closed-never why e = never (number_of why) (place_told why) (reductions_of r) (rw e at said)
 
     module _ (m : ℕ) (e : a ≡ Ok m) where
       count : m ≡ reductions_of r

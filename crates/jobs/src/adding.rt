@@ -86,7 +86,7 @@ fn feed_block(running: Record, bytes: &[u8]) -> Record
     feed(running, &xs[..m * k], &ys[..m * k]).running
 }
 
-// 4k
+// 4k. Here and below k is a number: a record holds a plain setting, which would have to be accepted a second time.
 pub fn pair_bytes(k: u64) -> u64
     requires { k ≤ most_coefficients }
     ensures { result ≡ pair_bytes k }

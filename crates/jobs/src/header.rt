@@ -1,7 +1,7 @@
 // The header: its bytes are held until it is complete, and then its checks are made.
 ghost use Rattle.std.specs.Prelude.{◌≡◌, ◌++◌, ◌<◌};
 ghost use Rattle.settings.specs.Answers.{fine};
-ghost use Rattle.settings.specs.Refusals.{number_of, place_of, says};
+ghost use Rattle.settings.specs.Refusals.{number_of, place_told, says};
 ghost use Rattle.jobs.specs.Jobs.{header_bytes, setting_in, declared_pairs, header_checks};
 ghost use Rattle.jobs.specs.States.{held_in, header_after, settled};
 ghost use Rattle.jobs.specs.States.{blank as States·blank};
@@ -97,7 +97,7 @@ fn declared_pairs(header: &[u8; HEADER_SIZE]) -> u64
 
 // A refusal that no further byte can change.
 pub fn refused(why: Refusal) -> State
-    ensures { result ≡ settled (number_of why) (place_of why) }
+    ensures { result ≡ settled (number_of why) (place_told why) }
 {
     State {
         stage: Stage::Refused(why.into()),

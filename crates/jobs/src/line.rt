@@ -1,4 +1,4 @@
-// The line, put into a lent buffer as far as that goes. The answer is the place after it, as texts::putting has it.
+// The line, put into a lent buffer as far as that goes, since there is no heap. The answer is the place after it, as texts::putting has it.
 ghost use Rattle.texts.specs.Putting.{Puts};
 ghost use Rattle.jobs.specs.Lines.{sums_line, refused_line};
 ghost use Rattle.jobs.specs.States.{adding_line, line_of};

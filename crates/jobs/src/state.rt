@@ -26,7 +26,7 @@ pub enum Stage {
 }
 
 // The bytes that wait for more, of the header or of the open pair, with zeros after them; how many pairs the header declares; and what was
-// added up.
+// added up. Any values can stand in the fields: `Takes` and `Finishes` say what is answered for them.
 #[derive(Clone, Copy)]
 pub struct State {
     pub stage: Stage,

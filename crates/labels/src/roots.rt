@@ -8,7 +8,7 @@ use crate::powers::{Powers, fill_powers, powers_of_three};
 use crate::setting::LABELS;
 use packed::running::{close, feed, fresh};
 
-// Whether it vanishes at each of the first m.
+// Whether it vanishes at each of the first m. A loop, as value_at asks for more than `all` would pass on.
 pub fn vanishes(m: usize, a: &[u16]) -> bool
     requires { (m ≤ most_checks) × Polynomial a.now }
     ensures { result ≡ vanishing m a.now }

@@ -23,13 +23,10 @@ pub fn number(rt: &impl Print, n: u64)
     let _ = rt.print(n);
 }
 
-pub fn setting(rt: &impl Print, p: u64, k: u64, t: u64, n: u64)
+pub fn setting(rt: &impl Print, setting: [u64; 4])
     ensures { Prints result }
 {
-    number(rt, p);
-    number(rt, k);
-    number(rt, t);
-    number(rt, n);
+    numbers(rt, &setting);
 }
 
 // The elements of a list, of any type that 64 bits hold.

@@ -25,7 +25,7 @@ use Rattle.packed.specs.RunningChecks.{pairs-checked, pairs-pass, feed-refused, 
 use Rattle.settings.specs.declared.setting.Setting.{Setting}
 use Rattle.packed.specs.declared.running.Sum.{Sum}
 use Rattle.packed.specs.declared.running.Record.{Record}
-use Rattle.settings.specs.Refusals.{number_of, place_of, refusal_of, says, result_of}
+use Rattle.settings.specs.Refusals.{number_of, place_told, refusal_of, says, result_of}
 use Rattle.packed.specs.declared.running.Fed.{Fed}
 
 pub fresh-coherent : (s : Setting) → setting_checks s ≡ fine → Coherent s fresh_sum
@@ -168,7 +168,7 @@ said-then : {A : Type 0} (v : Verdict) (a : Answer A) → says (result_of v) ≡
 said-then (answered u) a hv ha = ha
 said-then (refused number place) a hv ha =
     let n : number_of (refusal_of number place) ≡ number = cc in
-    let i : place_of (refusal_of number place) ≡ place = cc in
+    let i : place_told (refusal_of number place) ≡ place = cc in
     rw (n, i)
 
 said-feed : (r : Record) (xs ys : List ℕ) → says (result_of (feed_checks r xs ys)) ≡ feed_checks r xs ys

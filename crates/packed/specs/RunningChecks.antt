@@ -33,7 +33,7 @@ use Rattle.settings.specs.declared.refusals.Refusal.{Refusal}
 use Rattle.settings.specs.declared.setting.Setting.{Setting}
 use Rattle.packed.specs.declared.running.Sum.{Sum}
 use Rattle.packed.specs.declared.running.Record.{Record}
-use Rattle.settings.specs.Refusals.{number_of, place_of, says, says-once}
+use Rattle.settings.specs.Refusals.{number_of, place_told, says, says-once}
 use Rattle.packed.specs.declared.running.Fed.{Fed}
 
 pub pairs-shape : (k m n : ℕ) → (pairs_cause k m n ≡ false) ↔ ((m ≡ n) × (m % k ≡ 0))
@@ -148,8 +148,8 @@ module _ (r : Record) (xs ys : List ℕ) (h : Coherent r.setting r.sum) where
       go (answered u) e number place refusal = absurd (never number place tt (sym refusal ∙ feed-fine r xs ys e))
       go (refused n i) e number place refusal = before-8.each number place (e ∙ sym (feed-refused r xs ys n i e) ∙ refusal)
 
-pub feed-nothing : (r : Record) (xs ys : List ℕ) (why : Refusal) → pair_checks r xs ys ≡ refused (number_of why) (place_of why) → Feeds r xs ys (record { running = r; answer = Err why })
-feed-nothing r xs ys why e = let all = feed-refused r xs ys (number_of why) (place_of why) e in (rw all, rw all)
+pub feed-nothing : (r : Record) (xs ys : List ℕ) (why : Refusal) → pair_checks r xs ys ≡ refused (number_of why) (place_told why) → Feeds r xs ys (record { running = r; answer = Err why })
+feed-nothing r xs ys why e = let all = feed-refused r xs ys (number_of why) (place_told why) e in (rw all, rw all)
 
 pub feed-taken : (r : Record) (xs ys : List ℕ) (u : Sum) → pair_checks r xs ys ≡ fine → u ≡ fed_sum r.setting r.sum xs ys
     → Feeds r xs ys (record { running = record_of r.setting u; answer = Ok (length xs / r.setting.k) })
@@ -187,7 +187,7 @@ pub close-pass : (r : Record) (len : ℕ) → Coherent r.setting r.sum → close
 unfolding close_checks
 close-pass r len h = rw ((coherent-is r).1 h)
 
-pub close-nothing : (r : Record) (old : List ℕ) (why : Refusal) → close_checks r (length old) ≡ refused (number_of why) (place_of why) → Closes r old (Err why) old
+pub close-nothing : (r : Record) (old : List ℕ) (why : Refusal) → close_checks r (length old) ≡ refused (number_of why) (place_told why) → Closes r old (Err why) old
 close-nothing r old why e = (rw e, rw e)
 
 pub close-written : (r : Record) (old after : List ℕ) → close_checks r (length old) ≡ fine → after ≡ filled (places r.setting) (closing_at r.setting r.sum) old

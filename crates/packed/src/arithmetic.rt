@@ -1,5 +1,5 @@
 // The packing loop, and the arithmetic under the public calls. Nothing is refused here: each function states what it assumes, of the numbers it is given
-// and not of the rule that accepted them.
+// and not of the rule that accepted them: the loops are called with constants for k, which a setting would hide from the compiler.
 ghost use Rattle.std.specs.Prelude.{◌≡◌, ◌^◌, ◌<◌, ◌≤◌};
 ghost use Rattle.polynomials.specs.Indices.{rounded_up};
 ghost use Rattle.polynomials.specs.Places.{packed};

@@ -78,8 +78,9 @@ fn add_batch(
 fn split_word(s: Accepted, sum: Sum) -> Sum
     ensures { result ≡ split s.setting sum }
 {
+    let old = sum.residues;
     let mut new = sum.residues;
-    add_residues(s, sum.word, &sum.residues, &mut new);
+    add_residues(s, sum.word, &old, &mut new);
     Sum {
         total: sum.total,
         word: 0,

@@ -16,7 +16,7 @@ use settings::refusals::Refusal;
 
 const COLUMNS: usize = 4;
 
-// The sums of one batch in each of four columns. Fields and not an array, as the contracts name each of the four.
+// The sums of one batch in each of four columns. Fields and not an array, as `BatchWords` and `AddsWords` name each.
 #[derive(Clone, Copy)]
 struct FourWords {
     first: u64,
@@ -87,7 +87,8 @@ fn add_columns(
     Ok(())
 }
 
-// The same of one batch: four words, and each is split. Where k is a number that is known, the splitting is written out.
+// The same of one batch: four words, and each is split. The arms call one function with a constant, so that the splitting is written out for it, which is
+// faster; a const parameter would need a second function for the k that have no arm.
 fn add_four_batches(
     s: Accepted,
     xs: &[u64],
@@ -163,17 +164,18 @@ fn add_fields(t: u64, m: usize, word: u64, at: usize, sums: &mut [u64])
 {
     let q = 1u64 << t;
     let mut rest = word;
-    for i in at..at + m {
-        sums[i] += rest % q;
+    for i in 0..m {
+        sums[at + i] += rest % q;
         rest >>= t;
     }
 }
 
 // The m lowest sums modulo p, into the first m elements: one remainder a coefficient.
-pub fn write_remainders(p: u64, m: usize, sums: &[u64], out: &mut [u16])
-    requires { (0 < p) × (p ≤ largest_modulus) × (m ≤ length sums.now) × (m ≤ length out.old) }
-    ensures { out.new ≡ filled m (sum_residue p sums.now) out.old }
+pub fn write_remainders(s: Accepted, m: usize, sums: &[u64], out: &mut [u16])
+    requires { (m ≤ length sums.now) × (m ≤ length out.old) }
+    ensures { out.new ≡ filled m (sum_residue s.setting.p sums.now) out.old }
 {
+    let p = s.setting.p;
     for j in 0..m {
         out[j] = (sums[j] % p) as u16;
     }

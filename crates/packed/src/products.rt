@@ -115,6 +115,6 @@ fn multiply_in(
     pack_blocks(s, a, rounded_up(a.len(), s.setting.k), xs);
     pack_back(s, b, rounded_up(b.len(), s.setting.k), ys);
     gather(s, a, b, xs, ys, sums)?;
-    write_remainders(s.setting.p, a.len() + b.len() - 1, sums, out);
+    write_remainders(s, a.len() + b.len() - 1, sums, out);
     Ok(())
 }

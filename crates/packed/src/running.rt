@@ -28,14 +28,14 @@ pub struct Record {
     pub sum: Sum,
 }
 
-// A fresh record, and beside it whether its setting is refused: there is a record in either case.
+// A fresh record, and beside it whether its setting is refused: there is a record in either case, as `Freshens` promises, and so it is no `Result`.
 #[derive(Clone, Copy)]
 pub struct Begun {
     pub running: Record,
     pub answer: Result<(), Refusal>,
 }
 
-// A record, and how many pairs a feed took, or why none.
+// A record, handed back by value, and how many pairs a feed took, or why none: beside a refusal it is the old one, as `Feeds` promises.
 #[derive(Clone, Copy)]
 pub struct Fed {
     pub running: Record,
@@ -141,7 +141,7 @@ fn sum_cause(s: Accepted, sum: Sum) -> bool
         || check_word(s.setting, sum.word).is_err()
 }
 
-// A residue of p or more, or one from index 2k-1 on that is not zero.
+// A residue of p or more, or one from index 2k-1 on that is not zero. A loop: with `any` the proof did not close.
 fn residues_cause(s: Accepted, residues: &[u16]) -> bool
     ensures { result ≡ residues_cause s.setting residues.now }
 {
@@ -160,7 +160,7 @@ fn residue_most(s: Accepted, j: usize) -> u64
     if j < s.places() { s.setting.p - 1 } else { 0 }
 }
 
-// A field above what pairs, fewer than a batch, can add up to.
+// A field above what pairs, fewer than a batch, can add up to. A loop, as the rest of the word is carried on.
 fn fields_cause(s: Accepted, pairs: u64, word: u64) -> bool
     requires { pairs < s.setting.n }
     ensures { result ≡ fields_cause s.setting pairs word }

@@ -1,8 +1,8 @@
 -- The refusals, and what a call's result says.
---     number_of r, place_of r    the number and the place of each refusal
+--     number_of r, place_told r    the number and the place of each refusal
 --     refusal_of n i             the refusal of a number and a place, and refusal-back: the way back from both
 --     RefusesAt n i r            r is number n at place i; refusal-once: there is one such refusal only
---     Tells r x                  the promise of the conversion: x has the number and the place of r
+--     InNumbers r x                  the promise of the conversion: x has the number and the place of r
 --     says r                     what a result stands for: its value, or the number and the place of its refusal
 --     says-once                  it is fixed by what it says
 use Rattle.std.specs.Prelude.{ℕ, ◌≡◌, refl, eqb, Result, Ok, Err}
@@ -37,11 +37,11 @@ number_of in_refusal.Level = 19
 number_of in_refusal.Few = 20
 number_of in_refusal.Many = 21
 
-abbrev pub place_of : Refusal → ℕ
-place_of (in_refusal.Coefficient i) = i
-place_of (in_refusal.Word i) = i
-place_of (in_refusal.Stale i) = i
-place_of r = 0
+abbrev pub place_told : Refusal → ℕ
+place_told (in_refusal.Coefficient i) = i
+place_told (in_refusal.Word i) = i
+place_told (in_refusal.Stale i) = i
+place_told r = 0
 
 abbrev pub refusal_of : ℕ → ℕ → Refusal
 refusal_of n i =
@@ -67,7 +67,7 @@ refusal_of n i =
     (pick (eqb n 20) in_refusal.Few
     in_refusal.Many)))))))))))))))))))
 
-pub refusal-back : (r : Refusal) → refusal_of (number_of r) (place_of r) ≡ r
+pub refusal-back : (r : Refusal) → refusal_of (number_of r) (place_told r) ≡ r
 refusal-back in_refusal.Modulus = refl
 refusal-back in_refusal.Length = refl
 refusal-back in_refusal.Batch = refl
@@ -91,18 +91,18 @@ refusal-back in_refusal.Few = refl
 refusal-back in_refusal.Many = refl
 
 abbrev pub RefusesAt : ℕ → ℕ → Refusal → Type 0
-RefusesAt n i r = (number_of r ≡ n) × (place_of r ≡ i)
+RefusesAt n i r = (number_of r ≡ n) × (place_told r ≡ i)
 
 pub refusal-once : (n i : ℕ) (a b : Refusal) → RefusesAt n i a → RefusesAt n i b → a ≡ b
 refusal-once n i a b ha hb =
-    sym (refusal-back a) ∙ ap (λ (m : ℕ). refusal_of m (place_of a)) (ha.0 ∙ sym hb.0) ∙ ap (refusal_of (number_of b)) (ha.1 ∙ sym hb.1) ∙ refusal-back b
+    sym (refusal-back a) ∙ ap (λ (m : ℕ). refusal_of m (place_told a)) (ha.0 ∙ sym hb.0) ∙ ap (refusal_of (number_of b)) (ha.1 ∙ sym hb.1) ∙ refusal-back b
 
-abbrev pub Tells : Refusal → Numbered → Type 0
-Tells r x = (x.number ≡ number_of r) × (x.place ≡ place_of r)
+abbrev pub InNumbers : Refusal → Numbered → Type 0
+InNumbers r x = (x.number ≡ number_of r) × (x.place ≡ place_told r)
 
 abbrev pub says : {A : Type 0} → Result A Refusal → Answer A
 says (Ok v) = answered v
-says (Err r) = refused (number_of r) (place_of r)
+says (Err r) = refused (number_of r) (place_told r)
 
 abbrev pub result_of : {A : Type 0} → Answer A → Result A Refusal
 result_of (answered v) = Ok v

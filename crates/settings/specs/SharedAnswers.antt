@@ -12,7 +12,7 @@ use Rattle.polynomials.specs.IndexLaws.{length-upto}
 use Rattle.polynomials.specs.Lists.{coefficient}
 use Rattle.polynomials.specs.ListLaws.{coefficients}
 use Rattle.settings.specs.Answers.{refused, Verdict, fine, wrote, left_by}
-use Rattle.settings.specs.Refusals.{number_of, place_of, says, says-once}
+use Rattle.settings.specs.Refusals.{number_of, place_told, says, says-once}
 use Rattle.settings.specs.declared.refusals.Refusal.{Refusal}
 
 abbrev pub short_cause : ℕ → ℕ → Bool
@@ -25,7 +25,7 @@ pub writes-once : {A : Type 0} (checks : Verdict) (new old : List A) (a b : Resu
     → (a ≡ b) × (x ≡ y)
 writes-once checks new old a b x y ha hb = (says-once a b (wrote checks new) ha.0 hb.0, ha.1 ∙ sym hb.1)
 
-pub writes_nothing : {A : Type 0} (checks : Verdict) (new old : List A) (r : Refusal) → checks ≡ refused (number_of r) (place_of r) → Writes checks new old (Err r) old
+pub writes_nothing : {A : Type 0} (checks : Verdict) (new old : List A) (r : Refusal) → checks ≡ refused (number_of r) (place_told r) → Writes checks new old (Err r) old
 writes_nothing checks new old r e = (rw e, rw e)
 
 pub writes-filled : {A : Type 0} (checks : Verdict) (m : ℕ) (f : ℕ → A) (old after : List A) → checks ≡ fine → after ≡ filled m f old → Writes checks (upto m f) old (Ok m) after

@@ -1,6 +1,6 @@
 // The refusals under their names: each has a number, and a place, which is the index of what is bad, and 0 where a cause has no index of its own.
 ghost use Rattle.std.specs.Prelude.{◌≡◌};
-ghost use Rattle.settings.specs.Refusals.{number_of, place_of, Tells};
+ghost use Rattle.settings.specs.Refusals.{number_of, place_told, InNumbers};
 
 #[derive(Clone, Copy)]
 pub enum Refusal {
@@ -62,7 +62,7 @@ impl Refusal {
     }
 
     pub fn place(self) -> u64
-        ensures { result ≡ place_of self }
+        ensures { result ≡ place_told self }
     {
         match self {
             Refusal::Coefficient(i) | Refusal::Word(i) | Refusal::Stale(i) => i as u64,
@@ -79,7 +79,7 @@ pub struct Numbered {
 }
 
 impl From<Refusal> for Numbered {
-    ghost from_gives = { λ why r. Tells why r };
+    ghost from_gives = { λ why r. InNumbers why r };
 
     fn from(why: Refusal) -> Numbered {
         Numbered {

@@ -152,7 +152,7 @@ impl TableSetting {
 
 // Byte i: of the header, or past it the entry's value.
 fn table_byte(head: [u8; HEADER_SIZE], i: usize, value: u64) -> u8
-    requires { (length head ≡ header_size) × (value < 256) }
+    requires { value < 256 }
     ensures { result ≡ pick (ltb i header_size) (coefficient head i) value }
 {
     if i < HEADER_SIZE {

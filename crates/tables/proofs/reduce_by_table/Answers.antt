@@ -2,7 +2,7 @@
 use Rattle.std.proofs.Common.{ℕ, ◌≡◌, ◌≤◌, ◌<◌, true, List, Err, length, sym, ap, ◌∙◌, arith, lt-ltb, le-ltb}
 use Rattle.std.proofs.lemmas.Result.{err_from_is_err_and}
 use Rattle.settings.specs.Answers.{refused, fine}
-use Rattle.settings.specs.Refusals.{number_of, place_of}
+use Rattle.settings.specs.Refusals.{number_of, place_told}
 use Rattle.settings.specs.SharedAnswers.{writes_nothing, writes-filled}
 use Rattle.settings.specs.declared.refusals.Refusal.{Refusal}
 use Rattle.settings.specs.declared.setting.Setting.{Setting}
@@ -16,7 +16,7 @@ use Rattle.settings.specs.declared.refusals.Refusal.TheVariants as in_refusal
 use Rattle.tables.proofs.reduce_by_table.Goals as goal
 
 module _ (s : Setting) (buf ws old : List ℕ) where
-  refuses : (r : Refusal) → by_table_checks s buf ws (length old) ≡ refused (number_of r) (place_of r) → ReducesByTable s buf ws old (Err r) old
+  refuses : (r : Refusal) → by_table_checks s buf ws (length old) ≡ refused (number_of r) (place_told r) → ReducesByTable s buf ws old (Err r) old
   refuses r e = writes_nothing (by_table_checks s buf ws (length old)) (reduced_words s ws) old r e
 
   at-15 : (i : ℕ) → table_checks s ≡ fine → stale_check s buf ≡ refused 15 i → by_table_checks s buf ws (length old) ≡ refused 15 i
@@ -59,7 +59,7 @@ returns-in_err-check_words c =
     let same : c.from_residual-in_err-check_words.result ≡ Err why = told.1 ∙ ap Err told.2 in
     rw same
     (refuses a.s a.table.now a.words.now a.out.now why
-    (at-11 a.s a.table.now a.words.now a.out.now (number_of why) (place_of why) c.in_ok-s.ensures.0 (fresh (goal.at.returns-in_err-check_words c).In_default) c.if-out-words.false (rw (← c.in_ok-s.ensures.1) (sym c.in_err-check_words.ensures))))
+    (at-11 a.s a.table.now a.words.now a.out.now (number_of why) (place_told why) c.in_ok-s.ensures.0 (fresh (goal.at.returns-in_err-check_words c).In_default) c.if-out-words.false (rw (← c.in_ok-s.ensures.1) (sym c.in_err-check_words.ensures))))
 
 pub slice_bounds-reduce_words-end : goal.slice_bounds-reduce_words-end
 slice_bounds-reduce_words-end c =

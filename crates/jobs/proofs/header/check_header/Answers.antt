@@ -9,7 +9,7 @@ use Rattle.packed.specs.Running.{record_full_cause}
 use Rattle.jobs.specs.Jobs.{header_bytes, length_in, version_in, setting_in, pair_bytes, declared_bytes, declared_pairs, ragged_cause, header_checks}
 use Rattle.jobs.proofs.header.check_header.Goals.{Start, Else-length-lt-COUNTED, In_ok-check}
 use Rattle.jobs.proofs.header.check_header.Goals as goal
-use Rattle.settings.specs.Refusals.{number_of, place_of}
+use Rattle.settings.specs.Refusals.{number_of, place_told}
 
 -- a header of version 1 that counts itself
 record Begun (bs : List ℕ) : Type 0 where
@@ -76,7 +76,7 @@ returns-in_err-check c =
     let told = err_from_is_err_and c.from_residual.result c.from_residual.ensures.1 in
     let same : c.from_residual.result ≡ Err why = told.1 ∙ ap Err told.2 in
     rw same
-    (at-setting _ (begun (goal.at.returns-in_err-check c).Else-length-lt-COUNTED) (number_of why) (place_of why) (rw c.setting_in-s.ensures at (sym c.in_err-check.ensures)))
+    (at-setting _ (begun (goal.at.returns-in_err-check c).Else-length-lt-COUNTED) (number_of why) (place_told why) (rw c.setting_in-s.ensures at (sym c.in_err-check.ensures)))
 
 pub pair_bytes-requires : goal.pair_bytes-requires
 pair_bytes-requires c = (choice c).k_high

@@ -1,6 +1,6 @@
--- `add_fields` meets its contract: at place i the first i - at fields are added, and the rest of the word is what stands from the next one on. No
+-- `add_fields` meets its contract: after i turns the first i fields are added, and the rest of the word is what stands from the next one on. No
 -- sum is above all of them together. Assumes nothing.
-use Rattle.std.proofs.Common.{ℕ, ◌≡◌, ◌+◌, ◌-◌, ◌*◌, ◌/◌, ◌%◌, ◌^◌, ◌<◌, List, length, ap, ◌∙◌, arith, length-set, pow-add, Fits, w64}
+use Rattle.std.proofs.Common.{ℕ, ◌≡◌, refl, ◌+◌, ◌*◌, ◌/◌, ◌%◌, ◌^◌, ◌<◌, List, length, ap, ◌∙◌, arith, length-set, pow-add, Fits, w64}
 use Rattle.std.proofs.lemmas.Nat.{one_shl}
 use Rattle.polynomials.specs.Lists.{coefficient}
 use Rattle.polynomials.specs.Places.{packed, field, fields}
@@ -29,20 +29,19 @@ module _ (t m word at : ℕ) (old sums : List ℕ) (rest i r : ℕ) (inv : Turn 
       let next : packed 1 (fields (2 ^ t) (r + 1) word) ≡ packed 1 (fields (2 ^ t) r word) + field (2 ^ t) word r * 1 = rw one2 at (packed-next 1 (field (2 ^ t) word) r) in
       record { fits = omega (arith, packed-one sums i, this, packed-fewer 1 (field (2 ^ t) word) (r + 1) m (omega arith)) }
 
-pub overflow_add-sums : goal.overflow_add-sums
-overflow_add-sums c =
+pub overflow_add-sums-in-loop-i : goal.overflow_add-sums-in-loop-i
+overflow_add-sums-in-loop-i c =
     let a = c.args in
     let l = c.loop-i in
-    rw (one_shl a.t 64 c.requires.0) (fits a.t a.m a.word a.at a.sums.now l.sums l.rest l.i (l.i - a.at) l.invariant (omega arith) (omega arith) c.requires.2)
+    rw (one_shl a.t 64 c.requires.0) (fits a.t a.m a.word a.at a.sums.now l.sums l.rest (a.at + l.i) l.i l.invariant refl (omega arith) c.requires.2)
 
 pub loop-i-preserved : goal.loop-i-preserved
 loop-i-preserved c =
     let a = c.args in
     let l = c.loop-i in
-    let next : l.i + 1 - a.at ≡ l.i - a.at + 1 = omega arith in
-    rw (next, one_shl a.t 64 c.requires.0)
+    rw (one_shl a.t 64 c.requires.0)
     (record {
       size = simp length-set l.invariant.size;
-      above = ap (λ (n : ℕ). n / 2 ^ a.t) l.invariant.above ∙ field_next (2 ^ a.t) a.word (l.i - a.at);
-      added = turned a.t a.m a.word a.at a.sums.now l.sums l.rest l.i (l.i - a.at) l.invariant (omega arith) (omega arith) (omega (arith, c.requires.1, l.invariant.size));
+      above = ap (λ (n : ℕ). n / 2 ^ a.t) l.invariant.above ∙ field_next (2 ^ a.t) a.word l.i;
+      added = turned a.t a.m a.word a.at a.sums.now l.sums l.rest (a.at + l.i) l.i l.invariant refl (omega arith) (omega (arith, c.requires.1, l.invariant.size));
     })

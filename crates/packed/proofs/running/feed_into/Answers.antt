@@ -1,5 +1,5 @@
 -- `feed_into` meets its promise. Assumes nothing.
-use Rattle.std.proofs.Common.{◌≡◌, Result, Ok, sym, ◌∙◌}
+use Rattle.std.proofs.Common.{◌≡◌, Result, Ok, ◌∙◌}
 use Rattle.std.proofs.lemmas.Result.{err_from_is_err_and}
 use Rattle.settings.specs.declared.refusals.Refusal.{Refusal}
 use Rattle.packed.specs.declared.running.Sum.{Sum}
