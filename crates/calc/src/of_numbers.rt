@@ -26,16 +26,7 @@ pub fn answer_numbers(
 ) -> Result<usize, Refusal> {
     let s = call.setting();
     Ok(match verb {
-        Verb::Choose => {
-            let [p, k, n, ..] = call.numbers;
-            // The width is taken out by `let .. else`, as the project asks of whoever calls choose.
-            let chosen = choose(p, k, n);
-            let Ok(width) = chosen else {
-                // What stands in the way of a width.
-                return chosen.map(|_| 0);
-            };
-            put_named(b"width", width, out)
-        }
+        Verb::Choose => width_line(call, out)?,
         Verb::Check => put_accepted(check(s), out)?,
         // The fresh record is held also where its setting is refused; the lane that was held stays then.
         Verb::Fresh => {
@@ -55,15 +46,31 @@ pub fn answer_numbers(
         Verb::Lane => lane_line(held.lane, out),
         Verb::Job => job_line(held.job, out),
         Verb::Help => help_line(out),
-        Verb::Build => put_writing(
-            call.options,
-            &mut [MARK as u8; LIST],
-            out,
-            |list: &mut [u8]| build(s, list),
-        ),
+        Verb::Build => table_line(call, out),
         Verb::Close => close_line(held.running, call.options, &mut [MARK as u16; LIST], out),
         _ => finish_line(held.job, call.options, &mut [MARK as u8; LIST], out),
     })
+}
+
+fn width_line(call: Call, out: &mut [u8]) -> Result<usize, Refusal> {
+    let [p, k, n, ..] = call.numbers;
+    // The width is taken out by `let .. else`, as the project asks of whoever calls choose.
+    let chosen = choose(p, k, n);
+    let Ok(width) = chosen else {
+        // What stands in the way of a width.
+        return chosen.map(|_| 0);
+    };
+    Ok(put_named(b"width", width, out))
+}
+
+fn table_line(call: Call, out: &mut [u8]) -> usize {
+    let s = call.setting();
+    put_writing(
+        call.options,
+        &mut [MARK as u8; LIST],
+        out,
+        |list: &mut [u8]| build(s, list),
+    )
 }
 
 fn close_line(running: Record, options: Options, list: &mut [u16], out: &mut [u8]) -> usize {

@@ -29,7 +29,6 @@ pub fn answer_coefficients(
     let xs = coefficients(xs, &mut first);
     let mut second = [0u16; LIST];
     let ys = coefficients(ys, &mut second);
-    let s = call.setting();
     let [n, ..] = call.numbers;
     Ok(match verb {
         Verb::SetRecord => {
@@ -43,28 +42,40 @@ pub fn answer_coefficients(
         }
         Verb::Coefficients => put_accepted(check_coefficients(n, xs, ys), out)?,
         Verb::First => put_named(b"index", first_bad(n, xs).unwrap_or(xs.len()) as u64, out),
-        Verb::Pack => put_named(b"word", pack(s, xs)?, out),
-        Verb::Passes => {
-            if labels::check(n, xs)? {
-                put(b"passes", out, 0)
-            } else {
-                put(b"fails", out, 0)
-            }
-        }
+        Verb::Pack => put_named(b"word", pack(call.setting(), xs)?, out),
+        Verb::Passes => put_passing(labels::check(n, xs)?, out),
         Verb::LaneSum => put_lane_word(lane::sum(held.lane, xs, ys)?, out),
-        Verb::Product => put_writing(
-            call.options,
-            &mut [MARK as u16; LIST],
-            out,
-            |list: &mut [u16]| product(s, xs, ys, list),
-        ),
-        _ => put_writing(
-            call.options,
-            &mut [MARK as u16; LIST],
-            out,
-            |list: &mut [u16]| labels::write(n, xs, list),
-        ),
+        Verb::Product => product_line(call, xs, ys, out),
+        _ => label_line(call, xs, out),
     })
+}
+
+fn product_line(call: Call, xs: &[u16], ys: &[u16], out: &mut [u8]) -> usize {
+    let s = call.setting();
+    put_writing(
+        call.options,
+        &mut [MARK as u16; LIST],
+        out,
+        |list: &mut [u16]| product(s, xs, ys, list),
+    )
+}
+
+fn label_line(call: Call, content: &[u16], out: &mut [u8]) -> usize {
+    let [level, ..] = call.numbers;
+    put_writing(
+        call.options,
+        &mut [MARK as u16; LIST],
+        out,
+        |list: &mut [u16]| labels::write(level, content, list),
+    )
+}
+
+fn put_passing(passes: bool, out: &mut [u8]) -> usize {
+    if passes {
+        put(b"passes", out, 0)
+    } else {
+        put(b"fails", out, 0)
+    }
 }
 
 // Residues that are not given are zeros.

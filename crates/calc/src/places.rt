@@ -1,6 +1,6 @@
 // Places in a line, and parts of it.
 use crate::faults::Fault;
-use texts::kinds::{Kind, kind_of, seek};
+use texts::kinds::{Except, Kind, seek};
 
 // What stands from one place up to another; nothing, where there is no such part.
 pub fn part<'a>(text: &'a [u8], from: usize, to: usize) -> &'a [u8] {
@@ -9,17 +9,17 @@ pub fn part<'a>(text: &'a [u8], from: usize, to: usize) -> &'a [u8] {
 
 // The first place from i on that is no blank, or the end.
 pub fn filled(text: &[u8], i: usize) -> usize {
-    seek(text, i, |byte| kind_of(byte) != Kind::Blank).min(text.len())
+    seek(text, i, Except { kind: Kind::Blank }).min(text.len())
 }
 
 // The first letter from i on, or the end.
 pub fn letter(text: &[u8], i: usize) -> usize {
-    seek(text, i, |byte| kind_of(byte) == Kind::Letter).min(text.len())
+    seek(text, i, Kind::Letter).min(text.len())
 }
 
 // Where the letters from i on end.
 pub fn word_end(text: &[u8], i: usize) -> usize {
-    seek(text, i, |byte| kind_of(byte) != Kind::Letter).min(text.len())
+    seek(text, i, Except { kind: Kind::Letter }).min(text.len())
 }
 
 // Whether this word, and no longer one, stands at place i.
@@ -29,7 +29,7 @@ pub fn is_word(text: &[u8], i: usize, word: &[u8]) -> bool {
 
 // Where the comment begins, or the end.
 pub fn comment(text: &[u8]) -> usize {
-    seek(text, 0, |byte| kind_of(byte) == Kind::Comment)
+    seek(text, 0, Kind::Comment)
 }
 
 // The colon after j others, or the end.
@@ -42,7 +42,7 @@ pub fn colon(text: &[u8], j: usize) -> usize {
 }
 
 fn next_colon(text: &[u8], i: usize) -> usize {
-    seek(text, i, |byte| kind_of(byte) == Kind::Colon)
+    seek(text, i, Kind::Colon)
 }
 
 // What stands after the colon that has j others before it, up to the next.

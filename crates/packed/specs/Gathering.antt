@@ -1,7 +1,6 @@
 -- What the workers of a product ask of each other. Definitions only. What they do to the sums is told by what the list of sums is worth in every base
 -- b, as BatchLaws says: fields that are added from place at on are worth b^at times themselves, a block is a digit in the base b^k, and the whole
 -- gathering is one product of two numbers.
---     short_factor                        the longest list that is worked in short arrays
 --     Packable s xs                      a list whose blocks can be packed
 --     packed_back s xs count r            word r of its blocks backwards: three words of empty blocks, then the highest of count blocks
 --     ToMultiply s a b out               two lists and a list lent for their product: nothing is refused and there is something to write
@@ -32,9 +31,6 @@ use Rattle.settings.specs.Bounds.{Bounds}
 use Rattle.packed.specs.Products.{product_residue}
 use Rattle.packed.specs.BatchLaws.{PackedWords, columns_worth}
 use Rattle.settings.specs.declared.setting.Setting.{Setting}
-
-abbrev pub short_factor : ℕ
-short_factor = 256
 
 pub record Packable (s : Setting) (xs : List ℕ) : Type 0 where
   pub bounded : Bounds s

@@ -1,13 +1,16 @@
 -- What is read from short texts and put into short buffers, computed from the definitions. Assumes nothing.
 --     kinds-agree       the kinds of bytes, those on both sides of every limit among them
+--     seeks-agree       places in the text `ab :0a`, found or not, from its start, from within, from its end and from past it
 --     reads-agree       texts that are read whole, and such that stop at a stray byte, at a number that is too large, at one for which there is no room
 --     puts-agree        numbers and a refusal in text, and where a text stands in a buffer
-use Rattle.std.specs.Prelude.{ℕ, ◌≡◌, refl, List, [], ◌∷◌, Result, Ok, Err}
+use Rattle.std.specs.Prelude.{ℕ, Bool, true, false, ◌≡◌, refl, List, [], ◌∷◌, Result, Ok, Err}
 use Rattle.polynomials.specs.Indices.{first}
 use Rattle.layout.specs.Decimals.{digits, decimal}
-use Rattle.texts.specs.Kinds.{kind_of}
+use Rattle.texts.specs.Kinds.{kind_of, wants_of, place_where}
 use Rattle.texts.specs.Reading.{bad_at, outcome_at, outcome}
 use Rattle.texts.specs.Putting.{spaced, refused_text, pasted, next_place}
+use Rattle.texts.specs.declared.kinds.Kind.{Kind}
+use Rattle.texts.specs.declared.kinds.Kind.TheVariants.{Blank, Digit, Letter, Colon, Comment}
 use Rattle.texts.specs.declared.reading.Stop.{Stop}
 use Rattle.texts.specs.declared.reading.Stop.TheVariants.{Stray, Large, Many}
 
@@ -18,6 +21,15 @@ each (c ∷ cs) = kind_of c ∷ each cs
 pub kinds-agree : each (9 ∷ 10 ∷ 11 ∷ 12 ∷ 13 ∷ 14 ∷ 31 ∷ 32 ∷ 33 ∷ 34 ∷ 35 ∷ 36 ∷ 47 ∷ 48 ∷ 57 ∷ 58 ∷ 59 ∷ 65 ∷ 96 ∷ 97 ∷ 122 ∷ 123 ∷ 0 ∷ 255 ∷ []) ≡ 5 ∷ 0 ∷ 5 ∷ 5 ∷ 0 ∷ 5 ∷ 5 ∷ 0 ∷ 5 ∷ 5 ∷ 4 ∷ 5 ∷ 5 ∷ 1 ∷ 1 ∷ 3 ∷ 5 ∷ 5 ∷ 5 ∷ 2 ∷ 2 ∷ 5 ∷ 5 ∷ 5 ∷ []
 unfolding kind_of
 kinds-agree = refl
+
+abbrev place : Kind → Bool → ℕ → ℕ
+place k is i = place_where (wants_of k is) (97 ∷ 98 ∷ 32 ∷ 58 ∷ 48 ∷ 97 ∷ []) i
+
+pub seeks-agree :
+    place Letter true 0 ∷ place Letter true 1 ∷ place Letter true 2 ∷ place Letter true 6 ∷ place Letter true 9 ∷ place Colon true 0 ∷ place Digit true 0 ∷ place Comment true 0 ∷ place Letter false 0 ∷ place Letter false 5 ∷ place Blank false 2 ∷ place Blank false 6 ∷ []
+    ≡ 0 ∷ 1 ∷ 5 ∷ 6 ∷ 9 ∷ 3 ∷ 4 ∷ 6 ∷ 2 ∷ 6 ∷ 3 ∷ 6 ∷ []
+unfolding kind_of place_where first
+seeks-agree = refl
 
 -- the outcomes of texts, one after the other
 pub record TextRow : Type 0 where

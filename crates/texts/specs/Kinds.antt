@@ -6,16 +6,16 @@
 --     kind_of c                    the kind of a byte
 --     kind-once                   it is one
 --     wanted c kind is            the byte is of that kind, where `is` is true, or of another, where it is false
+--     wants_of k is               the test of a kind, or of every other
 --     is_kind cs kind is j         so is the byte at place j
 --     passes_at p cs j            the byte at place j passes the test p
 --     place_where p cs i          the first place from i on where that holds, and the text's end where there is none; past the end, i itself
 --     place_of cs kind is i        so it is with `wanted`
---     Computes post p             a closure's results, for every byte, are those of p
---     SeeksBy post cs i r         what the search promises: the place of every test that the closure computes
---     Seeks cs kind is i r        what it promises for a kind
+--     SeeksBy p cs i r            what the search promises for a test p: that place
+--     Seeks cs kind is i r        so it is for a kind, or for every other kind
 --     seek-by-once, seek-once     each allows one answer
---     seek-kind                   the second promise is the first one, for a closure that computes `wanted`
-use Rattle.std.specs.Prelude.{ℕ, ◌-◌, ◌<◌, ◌≡◌, Bool, false, not, ◌||◌, List, eqb, ltb, length}
+--     seek-kind                   the first gives the second, for the test of a kind or of every other
+use Rattle.std.specs.Prelude.{ℕ, ◌-◌, ◌≡◌, Bool, false, not, ◌||◌, List, eqb, ltb, length}
 use Rattle.std.proofs.Common.{sym, ◌∙◌}
 use Rattle.polynomials.specs.Indices.{pick, first}
 use Rattle.polynomials.specs.Lists.{coefficient}
@@ -65,6 +65,9 @@ kind-once c r s a b = a ∙ sym b
 abbrev pub wanted : ℕ → ℕ → Bool → Bool
 wanted c kind is = pick is (eqb (kind_of c) kind) (not (eqb (kind_of c) kind))
 
+abbrev pub wants_of : Kind → Bool → ℕ → Bool
+wants_of k is c = wanted c (code_of k) is
+
 abbrev pub passes_at : (ℕ → Bool) → List ℕ → ℕ → Bool
 passes_at p cs j = p (coefficient cs j)
 
@@ -72,25 +75,23 @@ unfoldable pub place_where : (ℕ → Bool) → List ℕ → ℕ → ℕ
 place_where p cs i = first (passes_at p cs) (length cs - i) i
 
 abbrev pub is_kind : List ℕ → ℕ → Bool → ℕ → Bool
-is_kind cs kind is = passes_at (λ c. wanted c kind is) cs
+is_kind cs kind is j = wanted (coefficient cs j) kind is
 
-abbrev pub place_of : List ℕ → ℕ → Bool → ℕ → ℕ
-place_of cs kind is i = place_where (λ c. wanted c kind is) cs i
+unfoldable pub place_of : List ℕ → ℕ → Bool → ℕ → ℕ
+place_of cs kind is i = first (is_kind cs kind is) (length cs - i) i
 
-abbrev pub Computes : (ℕ → Bool → Type 0) → (ℕ → Bool) → Type 0
-Computes post p = (c : ℕ) (r : Bool) → c < 256 → post c r → r ≡ p c
-
-abbrev pub SeeksBy : (ℕ → Bool → Type 0) → List ℕ → ℕ → ℕ → Type 0
-SeeksBy post cs i r = (p : ℕ → Bool) → Computes post p → r ≡ place_where p cs i
+abbrev pub SeeksBy : (ℕ → Bool) → List ℕ → ℕ → ℕ → Type 0
+SeeksBy p cs i r = r ≡ place_where p cs i
 
 abbrev pub Seeks : List ℕ → ℕ → Bool → ℕ → ℕ → Type 0
 Seeks cs kind is i r = r ≡ place_of cs kind is i
 
+pub seek-by-once : (p : ℕ → Bool) (cs : List ℕ) (i r s : ℕ) → SeeksBy p cs i r → SeeksBy p cs i s → r ≡ s
+seek-by-once p cs i r s a b = a ∙ sym b
+
 pub seek-once : (cs : List ℕ) (kind : ℕ) (is : Bool) (i r s : ℕ) → Seeks cs kind is i r → Seeks cs kind is i s → r ≡ s
 seek-once cs kind is i r s a b = a ∙ sym b
 
-pub seek-by-once : (post : ℕ → Bool → Type 0) (p : ℕ → Bool) (cs : List ℕ) (i r s : ℕ) → Computes post p → SeeksBy post cs i r → SeeksBy post cs i s → r ≡ s
-seek-by-once post p cs i r s h a b = a p h ∙ sym (b p h)
-
-pub seek-kind : (post : ℕ → Bool → Type 0) (cs : List ℕ) (kind : ℕ) (is : Bool) (i r : ℕ) → Computes post (λ c. wanted c kind is) → SeeksBy post cs i r → Seeks cs kind is i r
-seek-kind post cs kind is i r h a = a (λ c. wanted c kind is) h
+pub seek-kind : (k : Kind) (is : Bool) (cs : List ℕ) (i r : ℕ) → SeeksBy (wants_of k is) cs i r → Seeks cs (code_of k) is i r
+unfolding place_where place_of
+seek-kind k is cs i r a = a

@@ -1,6 +1,6 @@
 // The kinds of a text's bytes.
-ghost use Rattle.std.specs.Prelude.{◌≡◌};
-ghost use Rattle.texts.specs.Kinds.{code_of, kind_of, SeeksBy};
+ghost use Rattle.std.specs.Prelude.{ℕ, Bool, false, true, ◌≡◌};
+ghost use Rattle.texts.specs.Kinds.{code_of, kind_of, wants_of, SeeksBy};
 
 #[derive(Clone, Copy, PartialEq, Eq)]
 pub enum Kind {
@@ -26,13 +26,42 @@ pub fn kind_of(byte: u8) -> Kind
     }
 }
 
-// The first place from i on whose byte passes the test; the text's end where there is none, and past the end i itself.
-pub fn seek<F: Fn(u8) -> bool>(text: &[u8], i: usize, is: F) -> usize
-    requires { F.IsAlwaysCallable is }
-    ensures { SeeksBy (F.post is) text.now i result }
+// What a search looks for. A test that says what it wants for every byte asks nothing of whoever calls `seek`, as a closure would.
+pub trait Wanted: Copy {
+    ghost wants: { Self → ℕ → Bool };
+
+    fn wants(self, byte: u8) -> bool
+        ensures { result ≡ wants self byte };
+}
+
+impl Wanted for Kind {
+    ghost wants = { λ k. wants_of k true };
+
+    fn wants(self, byte: u8) -> bool {
+        kind_of(byte) == self
+    }
+}
+
+// Every kind but this.
+#[derive(Clone, Copy)]
+pub struct Except {
+    pub kind: Kind,
+}
+
+impl Wanted for Except {
+    ghost wants = { λ e. wants_of e.kind false };
+
+    fn wants(self, byte: u8) -> bool {
+        kind_of(byte) != self.kind
+    }
+}
+
+// The first place from i on whose byte is wanted; the text's end where there is none, and past the end i itself.
+pub fn seek<T: Wanted>(text: &[u8], i: usize, what: T) -> usize
+    ensures { SeeksBy (T.wants what) text.now i result }
 {
     for at in i..text.len() {
-        if is(text[at]) {
+        if what.wants(text[at]) {
             return at;
         }
     }
