@@ -5,10 +5,10 @@ use crate::given::{Given, read_given};
 use crate::held::Held;
 use crate::limits::LIST;
 use crate::numbers::number_after;
-use crate::of_bytes::answer_bytes;
+use crate::of_bytes::{answer_bytes, set_job};
 use crate::of_doubles::answer_doubles;
 use crate::of_numbers::answer_numbers;
-use crate::of_polynomials::answer_coefficients;
+use crate::of_polynomials::{answer_coefficients, set_record};
 use crate::of_words::{answer_word, answer_words};
 use crate::places::{colon, comment, filled, part, word_end};
 use crate::shown::put_fault;
@@ -61,7 +61,9 @@ fn answer_lists(
     let ys = read_given(text, 1, form.second, &mut second)?;
     Ok(match form.first {
         Some(Given::Words) => answer_words(call, xs, out)?,
-        Some(Given::Bytes | Given::HeldBytes) => answer_bytes(verb, held, call, xs, ys, out),
+        Some(Given::Residues) => set_record(held, call, xs, out),
+        Some(Given::HeldBytes) => set_job(held, call, xs, out),
+        Some(Given::Bytes) => answer_bytes(verb, held, call, xs, ys, out),
         _ => answer_coefficients(verb, held, call, xs, ys, out)?,
     })
 }

@@ -1,6 +1,6 @@
 // The verbs that are given bytes: those of tables, and of a job.
 use crate::call::Call;
-use crate::copies::{bytes, copied};
+use crate::copies::bytes;
 use crate::held::Held;
 use crate::limits::{LIST, MARK};
 use crate::places::part;
@@ -34,28 +34,39 @@ pub fn answer_bytes(
             held.job = take(held.job, first);
             put(b"taken", out, 0)
         }
-        Verb::SetJob => {
-            held.job = job_of(call, held.running, first);
-            job_line(held.job, out)
-        }
-        Verb::ByTable => put_writing(
-            call.options,
-            &mut [MARK; LIST],
-            out,
-            |list: &mut [u64]| reduce_by_table(call.setting(), first, ys, list),
-        ),
-        _ => {
-            let mut buffer = [0u8; LIST];
-            picked_line(call.setting(), first, bytes(ys, &mut buffer), out)
-        }
+        Verb::ByTable => reduced_line(call, first, ys, out),
+        _ => pick_line(call.setting(), first, ys, out),
     }
 }
 
+// Not inlined, as the one below: a function sets its buffers to zero when it is entered, and `take` needs neither.
+#[inline(never)]
+fn reduced_line(call: Call, table: &[u8], xs: &[u64], out: &mut [u8]) -> usize {
+    put_writing(
+        call.options,
+        &mut [MARK; LIST],
+        out,
+        |list: &mut [u64]| reduce_by_table(call.setting(), table, xs, list),
+    )
+}
+
+#[inline(never)]
+fn pick_line(s: Setting, first: &[u8], xs: &[u64], out: &mut [u8]) -> usize {
+    let mut buffer = [0u8; LIST];
+    picked_line(s, first, bytes(xs, &mut buffer), out)
+}
+
+// The held job's state is set to these numbers, whatever they are.
+pub fn set_job(held: &mut Held, call: Call, xs: &[u64], out: &mut [u8]) -> usize {
+    held.job = job_of(call, held.running, xs);
+    job_line(held.job, out)
+}
+
 // The state with the held record in it. Bytes that are not given are zeros.
-fn job_of(call: Call, running: Record, xs: &[u8]) -> State {
+fn job_of(call: Call, running: Record, xs: &[u64]) -> State {
     let [stage, number, place, size, pairs, _] = call.numbers;
     let mut held = [0u8; HELD];
-    copied(xs, &mut held, |x| x);
+    bytes(xs, &mut held);
     State {
         stage: stage_of(stage, Numbered { number, place }),
         held,

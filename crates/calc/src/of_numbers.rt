@@ -16,8 +16,6 @@ use settings::setting::{accept, check, choose};
 use tables::build;
 use texts::putting::put;
 
-// Not inlined: its buffers take stack only while it runs.
-#[inline(never)]
 pub fn answer_numbers(
     verb: Verb,
     held: &mut Held,
@@ -47,8 +45,8 @@ pub fn answer_numbers(
         Verb::Job => job_line(held.job, out),
         Verb::Help => help_line(out),
         Verb::Build => table_line(call, out),
-        Verb::Close => close_line(held.running, call.options, &mut [MARK as u16; LIST], out),
-        _ => finish_line(held.job, call.options, &mut [MARK as u8; LIST], out),
+        Verb::Close => close_line(held.running, call.options, out),
+        _ => finish_line(held.job, call.options, out),
     })
 }
 
@@ -63,6 +61,8 @@ fn width_line(call: Call, out: &mut [u8]) -> Result<usize, Refusal> {
     Ok(put_named(b"width", width, out))
 }
 
+// Not inlined, as the two below: a function sets its buffers to zero when it is entered, and so each verb that is lent one has a function of its own.
+#[inline(never)]
 fn table_line(call: Call, out: &mut [u8]) -> usize {
     let s = call.setting();
     put_writing(
@@ -73,10 +73,12 @@ fn table_line(call: Call, out: &mut [u8]) -> usize {
     )
 }
 
-fn close_line(running: Record, options: Options, list: &mut [u16], out: &mut [u8]) -> usize {
-    match close(running, options.lend(list)) {
-        Ok(m) => put_written(b"reductions", m, places(running), options, list, out),
-        Err(why) => put_unwritten(why, options, list, out),
+#[inline(never)]
+fn close_line(running: Record, options: Options, out: &mut [u8]) -> usize {
+    let mut list = [MARK as u16; LIST];
+    match close(running, options.lend(&mut list)) {
+        Ok(m) => put_written(b"reductions", m, places(running), options, &list, out),
+        Err(why) => put_unwritten(why, options, &list, out),
     }
 }
 
@@ -85,10 +87,12 @@ fn places(running: Record) -> usize {
     accept(running.setting).map_or(0, |s| s.places())
 }
 
-fn finish_line(job: State, options: Options, line: &mut [u8], out: &mut [u8]) -> usize {
-    match finish(job, options.lend(line)) {
-        Ok(size) if !options.is_digest => put_text(size, options, line, out),
-        answer => put_wrote(answer, options, line, out),
+#[inline(never)]
+fn finish_line(job: State, options: Options, out: &mut [u8]) -> usize {
+    let mut line = [MARK as u8; LIST];
+    match finish(job, options.lend(&mut line)) {
+        Ok(size) if !options.is_digest => put_text(size, options, &line, out),
+        answer => put_wrote(answer, options, &line, out),
     }
 }
 

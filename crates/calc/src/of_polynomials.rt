@@ -1,6 +1,6 @@
 // The verbs that are given coefficients.
 use crate::call::Call;
-use crate::copies::{coefficients, copied};
+use crate::copies::coefficients;
 use crate::held::Held;
 use crate::limits::{LIST, MARK};
 use crate::of_doubles::put_lane_word;
@@ -31,10 +31,6 @@ pub fn answer_coefficients(
     let ys = coefficients(ys, &mut second);
     let [n, ..] = call.numbers;
     Ok(match verb {
-        Verb::SetRecord => {
-            held.running = record_of(call, xs);
-            record_line(held.running, out)
-        }
         Verb::Feed => {
             let fed = feed(held.running, xs, ys);
             held.running = fed.running;
@@ -78,11 +74,17 @@ fn put_passing(passes: bool, out: &mut [u8]) -> usize {
     }
 }
 
+// The held record is set to these numbers, whatever they are.
+pub fn set_record(held: &mut Held, call: Call, xs: &[u64], out: &mut [u8]) -> usize {
+    held.running = record_of(call, xs);
+    record_line(held.running, out)
+}
+
 // Residues that are not given are zeros.
-fn record_of(call: Call, xs: &[u16]) -> Record {
+fn record_of(call: Call, xs: &[u64]) -> Record {
     let [_, _, _, _, total, word] = call.numbers;
     let mut residues = [0u16; RESIDUE_PLACES];
-    copied(xs, &mut residues, |x| x);
+    coefficients(xs, &mut residues);
     Record {
         setting: call.setting(),
         sum: Sum {

@@ -47,7 +47,8 @@ fn reopened(n: u64, held: u64) -> u64
     if held < n { held } else { 0 }
 }
 
-// The next count pairs, from pair i on, after which the open batch holds held pairs. As soon as these are n, the word is split.
+// The next count pairs, from pair i on, after which the open batch holds held pairs. As soon as these are n, the word is split. It returns early, as the sum
+// would be copied once more a batch where it is the value of an `if`.
 fn add_batch(
     s: Accepted,
     sum: Sum,
@@ -68,10 +69,9 @@ fn add_batch(
         residues,
     };
     if held == s.setting.n {
-        split_word(s, next)
-    } else {
-        next
+        return split_word(s, next);
     }
+    next
 }
 
 // The word is split, its fields are added to the residues modulo p, and it is zero again.

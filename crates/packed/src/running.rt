@@ -1,7 +1,8 @@
 // The running record: pairs of polynomials are fed in calls of any size, and closing gives the sum of their products.
-ghost use Rattle.std.specs.Prelude.{◌≡◌, ◌<◌};
+ghost use Rattle.std.specs.Prelude.{◌≡◌, false, ◌<◌};
 ghost use Rattle.settings.specs.Accepting.{Past};
 ghost use Rattle.settings.specs.Answers.{fine};
+ghost use Rattle.settings.specs.Refusals.{says};
 ghost use Rattle.settings.specs.Settings.{setting_checks, places};
 ghost use Rattle.packed.specs.Running.{record_cause, record_check, sum_cause, residue_most, residues_cause, fields_cause, field_most, pair_checks, close_checks, fed, Freshens, Feeds, Closes};
 
@@ -75,7 +76,8 @@ pub fn feed(running: Record, xs: &[u16], ys: &[u16]) -> Fed
 fn feed_into(running: &mut Record, xs: &[u16], ys: &[u16]) -> Result<usize, Refusal>
     ensures { Feeds running.old xs.now ys.now (fed running.new result) }
 {
-    let s = accept_pairs(*running, xs, ys)?;
+    let s = accept_record(*running)?;
+    check_pairs(*running, xs, ys)?;
     running.sum = add_pairs(s, running.sum, xs, ys)?;
     Ok(xs.len() / s.setting.k as usize)
 }
@@ -90,21 +92,20 @@ pub fn close(running: Record, out: &mut [u16]) -> Result<u64, Refusal>
     Ok(rounded_up(sum.total as usize, s.setting.n) as u64)
 }
 
-// 12, 9, 13, 8.
+// 9, 13, 8, for a coherent record. 12 comes first, and feed asks it itself.
 #[tactic(auto, unfolding(crate::specs::Running::pair_checks))]
-fn accept_pairs(running: Record, xs: &[u16], ys: &[u16]) -> Result<Accepted, Refusal>
-    ensures { Past (pair_checks running xs.now ys.now) running.setting result }
+fn check_pairs(running: Record, xs: &[u16], ys: &[u16]) -> Result<(), Refusal>
+    requires { record_cause running ≡ false }
+    ensures { says result ≡ pair_checks running xs.now ys.now }
 {
-    let s = accept_record(running)?;
-    let k = s.setting.k;
+    let k = running.setting.k;
     if xs.len() != ys.len() || xs.len() as u64 % k != 0 {
         return Err(Refusal::Shape);
     }
     if MOST_PAIRS < running.sum.total + xs.len() as u64 / k {
         return Err(Refusal::Full);
     }
-    check_coefficients(s.setting.p, xs, ys)?;
-    Ok(s)
+    check_coefficients(running.setting.p, xs, ys)
 }
 
 // 12, 10, where a list of len elements is lent for the coefficients.

@@ -4,7 +4,7 @@
 --     RefusesAt n i r            r is number n at place i; refusal-once: there is one such refusal only
 --     InNumbers r x                  the promise of the conversion: x has the number and the place of r
 --     says r                     what a result stands for: its value, or the number and the place of its refusal
---     says-once                  it is fixed by what it says
+--     says-back, says-once       it is had back from what it says, and fixed by it
 use Rattle.std.specs.Prelude.{ℕ, ◌≡◌, refl, eqb, Result, Ok, Err}
 use Rattle.std.proofs.Common.{sym, ap, ◌∙◌}
 use Rattle.polynomials.specs.Indices.{pick}
@@ -108,7 +108,7 @@ abbrev pub result_of : {A : Type 0} → Answer A → Result A Refusal
 result_of (answered v) = Ok v
 result_of (refused n i) = Err (refusal_of n i)
 
-says-back : {A : Type 0} (r : Result A Refusal) → result_of (says r) ≡ r
+pub says-back : {A : Type 0} (r : Result A Refusal) → result_of (says r) ≡ r
 says-back (Ok v) = refl
 says-back (Err r) = ap Err (refusal-back r)
 

@@ -6,19 +6,24 @@
 --     table-parts          the table is the header and then the entries
 --     table-length         8 + p^2 bytes
 --     byte-made            so byte i is the header's, or past it entry i - 8, for which the base is known modulo p
+--     difference_from buf bs i
+--                          the first place from i on where a buffer differs from bytes, and their length where there is none
+--     Searched buf bs i j r
+--                          what a search of the places from i up to j says: it is r; or it is not before j
 --     looked-up-room, looked-up-made
 --                          what is looked up among the entries packs to the reduced word, for which a word has room
-use Rattle.std.specs.Prelude.{ℕ, ◌+◌, ◌-◌, ◌*◌, ◌/◌, ◌%◌, ◌^◌, ◌≤◌, ◌<◌, ◌≡◌, refl, List, [], ◌∷◌, ◌++◌, ltb, length}
+use Rattle.std.specs.Prelude.{ℕ, ◌+◌, ◌-◌, ◌*◌, ◌/◌, ◌%◌, ◌^◌, ◌≤◌, ◌<◌, ◌≡◌, refl, List, [], ◌∷◌, ◌++◌, ltb, length, max, Option, Some, None}
 use Rattle.std.proofs.Common.{sym, ap, ◌∙◌, mul-le-mul, div-one, lt_of_le_of_lt, arith, pow_pos, lt-ltb, le-ltb}
 use Rattle.std.proofs.Math.Decide.{dec_lt}
 use Rattle.std.proofs.Math.ListN.{get_or-append}
-use Rattle.polynomials.specs.Indices.{pick, upto}
+use Rattle.polynomials.specs.Indices.{pick, upto, first}
 use Rattle.polynomials.specs.IndexLaws.{length-upto, upto-at}
 use Rattle.polynomials.specs.Lists.{coefficient}
 use Rattle.polynomials.specs.ListLaws.{coefficient-after}
 use Rattle.polynomials.specs.Places.{packed, reduced, entry, looked_up}
 use Rattle.polynomials.specs.ReductionLaws.{reduced-most}
 use Rattle.polynomials.specs.TableLaws.{entry-base, Stands, looked-up-word}
+use Rattle.layout.specs.Beginnings.{differs_at}
 use Rattle.layout.specs.Numbers.{big_endian}
 use Rattle.settings.specs.Limits.{largest_table_modulus, word_bits}
 use Rattle.settings.specs.Settings.{base, places}
@@ -61,6 +66,13 @@ byte-made {p = p} {x = x} t i h e inside s is = is ∙ rw (h, table-parts p t) (
     go (no l) =
         rw (le-ltb i header_size (omega arith), value)
         (sym (coefficient-after (header p t) (entries p t) i (omega arith) ∙ upto-at (p * p) (entry p (2 ^ t)) (i - header_size) (omega arith)))
+
+abbrev pub difference_from : List ℕ → List ℕ → ℕ → ℕ
+difference_from buf bs i = first (differs_at buf bs) (length bs - i) i
+
+abbrev pub Searched : List ℕ → List ℕ → ℕ → ℕ → Option ℕ → Type 0
+Searched buf bs i j (Some k) = (difference_from buf bs i ≡ k) × ((i ≤ k) × (k < j))
+Searched buf bs i j None = difference_from buf bs i ≡ difference_from buf bs (max i j)
 
 module _ (s : Setting) (held : List ℕ) (m w : ℕ) (p-pos : 0 < s.p) (own : held ≡ entries s.p s.t) where
   -- what is looked up is the residues

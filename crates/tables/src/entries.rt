@@ -1,14 +1,14 @@
 // A correction table's bytes, and what is looked up among its entries. Nothing is refused here: each function states what it assumes.
-ghost use Rattle.std.specs.Prelude.{◌≡◌, ℕ, ◌+◌, ◌-◌, ◌%◌, ◌<◌, ◌≤◌, ltb, length};
-ghost use Rattle.polynomials.specs.Indices.{pick, filled, found};
+ghost use Rattle.std.specs.Prelude.{◌≡◌, ℕ, ◌+◌, ◌-◌, ◌*◌, ◌%◌, ◌^◌, ◌<◌, ◌≤◌, ltb, length};
+ghost use Rattle.polynomials.specs.Indices.{pick, upto, filled, found};
 ghost use Rattle.polynomials.specs.Lists.{coefficient};
+ghost use Rattle.polynomials.specs.Places.{packed, looked_up};
 ghost use Rattle.polynomials.specs.TableLaws.{Stands};
 ghost use Rattle.layout.specs.Beginnings.{first_difference};
-ghost use Rattle.settings.specs.Limits.{largest_table_modulus};
-ghost use Rattle.settings.specs.Settings.{base};
-ghost use Rattle.words.specs.Places.{reduced_word};
+ghost use Rattle.settings.specs.Limits.{largest_table_modulus, word_bits};
+ghost use Rattle.settings.specs.Settings.{base, places};
 ghost use Rattle.tables.specs.Tables.{entries, table, header_size, table_size, reduced_word_at};
-ghost use Rattle.tables.specs.TableLaws.{header};
+ghost use Rattle.tables.specs.TableLaws.{header, Searched};
 
 use crate::table_setting::TableSetting;
 
@@ -47,16 +47,40 @@ impl TableSetting {
         }
     }
 
-    // The first byte at which the buffer is not the table, also where it has ended.
+    // The first byte at which the buffer is not the table, also where it has ended. The header is searched apart, so that no byte after it is asked whether it
+    // is of the header; and the buffer's end is not asked for at each byte.
     pub fn first_difference(self, buffer: &[u8]) -> Option<usize>
         ensures { result ≡ found (first_difference buffer.now (table self.accepted.setting.p self.accepted.setting.t)) (table_size self.accepted.setting.p) }
     {
         let size = self.table_size();
+        let end = size.min(buffer.len());
         let head = self.header_bytes();
         let q = self.base_residue();
+        if let Some(i) = self.search(head, q, buffer, 0, HEADER_SIZE.min(end)) {
+            return Some(i);
+        }
+        if let Some(i) = self.search(head, q, buffer, HEADER_SIZE, end) {
+            return Some(i);
+        }
+        if end < size { Some(end) } else { None }
+    }
+
+    // The first byte from place `from` on, up to place `to`, at which the buffer is not the table; `from` is of the header, or the first place after it.
+    fn search(
+        self,
+        head: [u8; HEADER_SIZE],
+        q: u64,
+        buffer: &[u8],
+        from: usize,
+        to: usize,
+    ) -> Option<usize>
+        requires numbers { (head ≡ header self.accepted.setting.p self.accepted.setting.t) × (q ≡ base self.accepted.setting % self.accepted.setting.p) × (q < self.accepted.setting.p) }
+        requires places { (from ≤ header_size) × (to ≤ length buffer.now) × (to ≤ table_size self.accepted.setting.p) }
+        ensures { Searched buffer.now (table self.accepted.setting.p self.accepted.setting.t) from to result }
+    {
         let mut at = Entry { u: 0, value: 0 };
-        for i in 0..size {
-            if buffer.len() <= i || buffer[i] != table_byte(head, i, at.value) {
+        for i in from..to {
+            if buffer[i] != table_byte(head, i, at.value) {
                 return Some(i);
             }
             at = self.following(q, i, at);
@@ -109,7 +133,7 @@ impl TableSetting {
         } else {
             Entry {
                 u: 0,
-                value: wrapped(p, more + (p - q)),
+                value: wrapped_apart(p, more + (p - q)),
             }
         }
     }
@@ -125,10 +149,10 @@ impl TableSetting {
     }
 
     // The word whose field i is what stands among the entries at u_i + p u_(i+1): one division by p gives all the u, as for shifted residues, and each
-    // place is looked up once.
+    // place is looked up once. The entries may be any p^2 bytes, as long as a word has room for what is found.
     fn look_up(self, held: &[u8], word: u64) -> u64
-        requires { held.now ≡ entries self.accepted.setting.p self.accepted.setting.t }
-        ensures { result ≡ reduced_word self.accepted.setting word }
+        requires { (self.accepted.setting.p * self.accepted.setting.p ≤ length held.now) × (packed (base self.accepted.setting) (upto (places self.accepted.setting) (looked_up self.accepted.setting.p (base self.accepted.setting) held.now word)) < 2 ^ word_bits) }
+        ensures { result ≡ packed (base self.accepted.setting) (upto (places self.accepted.setting) (looked_up self.accepted.setting.p (base self.accepted.setting) held.now word)) }
     {
         let p = self.accepted.setting.p;
         let t = self.accepted.setting.t;
@@ -168,4 +192,14 @@ fn wrapped(p: u64, x: u64) -> u64
     ensures { (result ≡ x % p) × (result < p) }
 {
     if x < p { x } else { x - p }
+}
+
+// The same, by a call: an entry at which u begins anew is one in p, and what it takes would else be worked out at every entry.
+#[cold]
+#[inline(never)]
+fn wrapped_apart(p: u64, x: u64) -> u64
+    requires { x < p + p }
+    ensures { (result ≡ x % p) × (result < p) }
+{
+    wrapped(p, x)
 }

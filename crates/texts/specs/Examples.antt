@@ -1,12 +1,13 @@
 -- What is read from short texts and put into short buffers, computed from the definitions. Assumes nothing.
 --     kinds-agree       the kinds of bytes, those on both sides of every limit among them
 --     seeks-agree       places in the text `ab :0a`, found or not, from its start, from within, from its end and from past it
+--     codes-agree       the same by the numbers of kinds, and by numbers that are no kind's
 --     reads-agree       texts that are read whole, and such that stop at a stray byte, at a number that is too large, at one for which there is no room
 --     puts-agree        numbers and a refusal in text, and where a text stands in a buffer
 use Rattle.std.specs.Prelude.{ℕ, Bool, true, false, ◌≡◌, refl, List, [], ◌∷◌, Result, Ok, Err}
 use Rattle.polynomials.specs.Indices.{first}
 use Rattle.layout.specs.Decimals.{digits, decimal}
-use Rattle.texts.specs.Kinds.{kind_of, wants_of, place_where}
+use Rattle.texts.specs.Kinds.{kind_of, wants_of, place_where, place_of}
 use Rattle.texts.specs.Reading.{bad_at, outcome_at, outcome}
 use Rattle.texts.specs.Putting.{spaced, refused_text, pasted, next_place}
 use Rattle.texts.specs.declared.kinds.Kind.{Kind}
@@ -22,14 +23,21 @@ pub kinds-agree : each (9 ∷ 10 ∷ 11 ∷ 12 ∷ 13 ∷ 14 ∷ 31 ∷ 32 ∷ 3
 unfolding kind_of
 kinds-agree = refl
 
+abbrev sample : List ℕ
+sample = 97 ∷ 98 ∷ 32 ∷ 58 ∷ 48 ∷ 97 ∷ []
+
 abbrev place : Kind → Bool → ℕ → ℕ
-place k is i = place_where (wants_of k is) (97 ∷ 98 ∷ 32 ∷ 58 ∷ 48 ∷ 97 ∷ []) i
+place k is i = place_where (wants_of k is) sample i
 
 pub seeks-agree :
     place Letter true 0 ∷ place Letter true 1 ∷ place Letter true 2 ∷ place Letter true 6 ∷ place Letter true 9 ∷ place Colon true 0 ∷ place Digit true 0 ∷ place Comment true 0 ∷ place Letter false 0 ∷ place Letter false 5 ∷ place Blank false 2 ∷ place Blank false 6 ∷ []
     ≡ 0 ∷ 1 ∷ 5 ∷ 6 ∷ 9 ∷ 3 ∷ 4 ∷ 6 ∷ 2 ∷ 6 ∷ 3 ∷ 6 ∷ []
 unfolding kind_of place_where first
 seeks-agree = refl
+
+pub codes-agree : place_of sample 2 true 2 ∷ place_of sample 2 false 0 ∷ place_of sample 5 true 0 ∷ place_of sample 6 true 0 ∷ place_of sample 6 false 1 ∷ place_of sample 255 false 9 ∷ [] ≡ 5 ∷ 2 ∷ 6 ∷ 6 ∷ 1 ∷ 9 ∷ []
+unfolding kind_of place_of first
+codes-agree = refl
 
 -- the outcomes of texts, one after the other
 pub record TextRow : Type 0 where

@@ -14,7 +14,8 @@
 --     SeeksBy p cs i r            what the search promises for a test p: that place
 --     Seeks cs kind is i r        so it is for a kind, or for every other kind
 --     seek-by-once, seek-once     each allows one answer
---     seek-kind                   the first gives the second, for the test of a kind or of every other
+--     seek-number                 the first gives the second, for the test of a kind or of every other, by any number
+--     seek-kind                   so it does by a kind
 use Rattle.std.specs.Prelude.{ℕ, ◌-◌, ◌≡◌, Bool, false, not, ◌||◌, List, eqb, ltb, length}
 use Rattle.std.proofs.Common.{sym, ◌∙◌}
 use Rattle.polynomials.specs.Indices.{pick, first}
@@ -92,6 +93,9 @@ seek-by-once p cs i r s a b = a ∙ sym b
 pub seek-once : (cs : List ℕ) (kind : ℕ) (is : Bool) (i r s : ℕ) → Seeks cs kind is i r → Seeks cs kind is i s → r ≡ s
 seek-once cs kind is i r s a b = a ∙ sym b
 
-pub seek-kind : (k : Kind) (is : Bool) (cs : List ℕ) (i r : ℕ) → SeeksBy (wants_of k is) cs i r → Seeks cs (code_of k) is i r
+pub seek-number : (kind : ℕ) (is : Bool) (cs : List ℕ) (i r : ℕ) → SeeksBy (λ c. wanted c kind is) cs i r → Seeks cs kind is i r
 unfolding place_where place_of
-seek-kind k is cs i r a = a
+seek-number kind is cs i r a = a
+
+pub seek-kind : (k : Kind) (is : Bool) (cs : List ℕ) (i r : ℕ) → SeeksBy (wants_of k is) cs i r → Seeks cs (code_of k) is i r
+seek-kind k = seek-number (code_of k)

@@ -1,6 +1,6 @@
 // The kinds of a text's bytes.
 ghost use Rattle.std.specs.Prelude.{ℕ, Bool, false, true, ◌≡◌};
-ghost use Rattle.texts.specs.Kinds.{code_of, kind_of, wants_of, SeeksBy};
+ghost use Rattle.texts.specs.Kinds.{code_of, kind_of, wanted, wants_of, SeeksBy};
 
 #[derive(Clone, Copy, PartialEq, Eq)]
 pub enum Kind {
@@ -23,6 +23,22 @@ pub fn kind_of(byte: u8) -> Kind
         b':' => Kind::Colon,
         b'#' => Kind::Comment,
         _ => Kind::Other,
+    }
+}
+
+impl Kind {
+    // Each number stands here once.
+    pub fn code(self) -> u8
+        ensures { result ≡ code_of self }
+    {
+        match self {
+            Kind::Blank => 0,
+            Kind::Digit => 1,
+            Kind::Letter => 2,
+            Kind::Colon => 3,
+            Kind::Comment => 4,
+            Kind::Other => 5,
+        }
     }
 }
 
@@ -53,6 +69,22 @@ impl Wanted for Except {
 
     fn wants(self, byte: u8) -> bool {
         kind_of(byte) != self.kind
+    }
+}
+
+// A kind by its number, which may be any: a byte of that kind, where `is` says so, or a byte of another.
+#[derive(Clone, Copy)]
+pub struct Coded {
+    pub kind: u8,
+    pub is: bool,
+}
+
+impl Wanted for Coded {
+    ghost wants = { λ c byte. wanted byte c.kind c.is };
+
+    fn wants(self, byte: u8) -> bool {
+        let is = kind_of(byte).code() == self.kind;
+        if self.is { is } else { !is }
     }
 }
 

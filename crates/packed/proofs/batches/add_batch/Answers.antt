@@ -11,5 +11,5 @@ returns-then-held-s c =
     let pre = c.requires in
     c.split_word.ensures ∙ batch-full pre c.add_products-word.ensures (omega (arith, c.if-held-s.true, pre.most))
 
-pub returns-else-held-s : goal.returns-else-held-s
-returns-else-held-s c = batch-unfilled c.requires c.add_products-word.ensures (λ e. omega (arith, c.if-held-s.false, e))
+pub returns : goal.returns
+returns c = batch-unfilled c.requires c.add_products-word.ensures (λ e. omega (arith, c.if-held-s.false, e))

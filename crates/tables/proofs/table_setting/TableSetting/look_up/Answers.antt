@@ -1,9 +1,8 @@
 -- `look_up` meets its contract: at place i, rest and quotient are word and quotient from there on, and w is the word of the places below. Assumes nothing.
-use Rattle.std.proofs.Common.{ℕ, ◌≡◌, ◌+◌, ◌-◌, ◌*◌, ◌/◌, ◌%◌, ◌^◌, ◌≤◌, ◌<◌, List, sym, ap, ◌∙◌, arith, add-one, mod-lt, mod-eq_of_lt, lt_of_le_of_lt, mul_comm, mul-le-mul_right}
+use Rattle.std.proofs.Common.{ℕ, ◌≡◌, ◌+◌, ◌-◌, ◌*◌, ◌/◌, ◌%◌, ◌^◌, ◌≤◌, ◌<◌, List, sym, ap, ◌∙◌, arith, add-one, mod-lt, mod-eq_of_lt, lt_of_le_of_lt, lt_of_lt_of_le, mul_comm, mul-le-mul_right}
 use Rattle.std.proofs.Math.Nat.{pow-succ'}
 use Rattle.std.proofs.Math.Pow.{pow-lt}
 use Rattle.polynomials.specs.Indices.{upto}
-use Rattle.polynomials.specs.IndexLaws.{length-upto}
 use Rattle.polynomials.specs.Lists.{coefficient}
 use Rattle.polynomials.specs.Places.{packed, shifted, looked_up}
 use Rattle.polynomials.specs.PlaceLaws.{packed-next, packed-fewer, field_next, power-power}
@@ -11,7 +10,7 @@ use Rattle.polynomials.specs.ReductionLaws.{mul-mod, quotient-under, shifted-quo
 use Rattle.polynomials.specs.TableLaws.{table-place}
 use Rattle.settings.specs.Settings.{places}
 use Rattle.settings.specs.declared.accepted.Accepted.{Accepted}
-use Rattle.tables.specs.TableLaws.{square-most, looked-up-room, looked-up-made}
+use Rattle.tables.specs.TableLaws.{square-most}
 use Rattle.tables.proofs.table_setting.TableSetting.look_up.Invariants.{Turn}
 use Rattle.tables.proofs.table_setting.TableSetting.look_up.Goals.{After-from}
 use Rattle.tables.proofs.table_setting.TableSetting.look_up.Goals as goal
@@ -81,15 +80,13 @@ overflow_add-place c =
     record { fits = omega (arith, inside c.loop.invariant (p-pos s.accepted), square-most s.accepted.setting.p s.small) }
 
 pub bounds-held-place : goal.bounds-held-place
-bounds-held-place c = rw (c.requires, length-upto) (inside c.loop.invariant (p-pos c.args.self.accepted))
+bounds-held-place c = lt_of_lt_of_le (inside c.loop.invariant (p-pos c.args.self.accepted)) c.requires.0
 
 -- what is looked up fits at its place, on top of the places below
 added : (c : After-from) → c.loop.w + c.from.result * c.loop.weight < 2 ^ 64
 added c =
-    let a = c.args in
-    let s = a.self.accepted in
-    let fits = looked-up-room s.setting a.held.now (places s.setting) a.word (p-pos s) c.requires c.ranges.word.fits in
-    rw c.from.ensures (room c.loop.invariant (places s.setting) (omega arith) (last s) fits)
+    let s = c.args.self.accepted in
+    rw c.from.ensures (room c.loop.invariant (places s.setting) (omega arith) (last s) c.requires.1)
 
 pub overflow_mul-w : goal.overflow_mul-w
 overflow_mul-w c = omega (arith, added c)
@@ -111,6 +108,5 @@ loop-preserved c =
 
 pub returns : goal.returns
 returns c =
-    let s = c.args.self.accepted in
-    let all : c.loop.counter ≡ places s.setting = omega arith in
-    looked-up-made s.setting c.args.held.now c.loop.counter c.args.word (p-pos s) c.requires c.loop.w all c.loop.invariant.w-is
+    let all : c.loop.counter ≡ places c.args.self.accepted.setting = omega arith in
+    rw (← all) c.loop.invariant.w-is
