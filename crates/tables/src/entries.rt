@@ -124,7 +124,7 @@ impl TableSetting {
         ensures { (j : ℕ) → Stands self.accepted.setting.p q j at.u at.value → Stands self.accepted.setting.p q (j + 1) result.u result.value }
     {
         let p = self.accepted.setting.p;
-        let more = wrapped(p, at.value + 1);
+        let more = one_more(p, at.value);
         if at.u + 1 < p {
             Entry {
                 u: at.u + 1,
@@ -194,7 +194,15 @@ fn wrapped(p: u64, x: u64) -> u64
     if x < p { x } else { x - p }
 }
 
-// The same, by a call: an entry at which u begins anew is one in p, and what it takes would else be worked out at every entry.
+// x + 1 modulo p, for an x below p. Nothing is taken away, as the next entry waits for this one.
+fn one_more(p: u64, x: u64) -> u64
+    requires { (x < p) × (p ≤ largest_table_modulus) }
+    ensures { (result ≡ (x + 1) % p) × (result < p) }
+{
+    if x + 1 < p { x + 1 } else { 0 }
+}
+
+// The same as `wrapped`, by a call: an entry at which u begins anew is one in p, and what it takes would else be worked out at every entry.
 #[cold]
 #[inline(never)]
 fn wrapped_apart(p: u64, x: u64) -> u64
