@@ -25,6 +25,7 @@ use Rattle.polynomials.specs.ReductionLaws.{reduced-most}
 use Rattle.polynomials.specs.TableLaws.{entry-base, Stands, looked-up-word}
 use Rattle.layout.specs.Beginnings.{differs_at}
 use Rattle.layout.specs.Numbers.{big_endian}
+use Rattle.settings.specs.Bounds.{Bounds}
 use Rattle.settings.specs.Limits.{largest_table_modulus, word_bits}
 use Rattle.settings.specs.Settings.{base, places}
 use Rattle.words.specs.Places.{reduced_word}
@@ -74,10 +75,10 @@ abbrev pub Searched : List ℕ → List ℕ → ℕ → ℕ → Option ℕ → T
 Searched buf bs i j (Some k) = (difference_from buf bs i ≡ k) × ((i ≤ k) × (k < j))
 Searched buf bs i j None = difference_from buf bs i ≡ difference_from buf bs (max i j)
 
-module _ (s : Setting) (held : List ℕ) (m w : ℕ) (p-pos : 0 < s.p) (own : held ≡ entries s.p s.t) where
+module _ (s : Setting) (held : List ℕ) (m w : ℕ) (bounded : Bounds s) (own : held ≡ entries s.p s.t) where
   -- what is looked up is the residues
   found : packed (base s) (upto m (looked_up s.p (base s) held w)) ≡ packed (base s) (upto m (reduced s.p (base s) w))
-  found = rw own (looked-up-word s.p (base s) m w p-pos)
+  found = rw own (looked-up-word s.p (base s) m w (omega (arith, bounded.range.choice.p_low)))
 
   pub looked-up-room : w < 2 ^ word_bits → packed (base s) (upto m (looked_up s.p (base s) held w)) < 2 ^ word_bits
   looked-up-room h = rw found (lt_of_le_of_lt (reduced-most s.p (base s) m w (pow_pos s.t)) h)

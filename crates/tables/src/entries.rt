@@ -133,7 +133,7 @@ impl TableSetting {
         } else {
             Entry {
                 u: 0,
-                value: wrapped_apart(p, more + (p - q)),
+                value: wrapped(p, more + (p - q)),
             }
         }
     }
@@ -186,7 +186,9 @@ fn table_byte(head: [u8; HEADER_SIZE], i: usize, value: u64) -> u8
     }
 }
 
-// x modulo p, for an x below 2p.
+// x modulo p, for an x below 2p. By a call, as an entry at which u begins anew is one in p: what it takes would else be worked out at every entry.
+#[cold]
+#[inline(never)]
 fn wrapped(p: u64, x: u64) -> u64
     requires { x < p + p }
     ensures { (result ≡ x % p) × (result < p) }
@@ -196,18 +198,8 @@ fn wrapped(p: u64, x: u64) -> u64
 
 // x + 1 modulo p, for an x below p. Nothing is taken away, as the next entry waits for this one.
 fn one_more(p: u64, x: u64) -> u64
-    requires { (x < p) × (p ≤ largest_table_modulus) }
+    requires { x < p }
     ensures { (result ≡ (x + 1) % p) × (result < p) }
 {
     if x + 1 < p { x + 1 } else { 0 }
-}
-
-// The same as `wrapped`, by a call: an entry at which u begins anew is one in p, and what it takes would else be worked out at every entry.
-#[cold]
-#[inline(never)]
-fn wrapped_apart(p: u64, x: u64) -> u64
-    requires { x < p + p }
-    ensures { (result ≡ x % p) × (result < p) }
-{
-    wrapped(p, x)
 }

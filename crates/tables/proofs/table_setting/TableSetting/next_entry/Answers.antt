@@ -10,4 +10,4 @@ pub returns-else-at-p : goal.returns-else-at-p
 returns-else-at-p c =
     let a = c.args in
     let end : a.at.u + 1 ≡ a.self.accepted.setting.p = omega arith in
-    λ j s. rw (c.wrapped_apart.ensures.0, c.one_more-more.ensures.0) (stands-anew (omega arith) (omega arith) s end)
+    λ j s. rw (c.wrapped.ensures.0, c.one_more-more.ensures.0) (stands-anew (omega arith) (omega arith) s end)
